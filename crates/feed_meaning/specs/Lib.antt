@@ -1,0 +1,16 @@
+pub mod Files
+pub mod Rules
+pub mod FeedRules
+pub mod FeedLinks
+pub mod Tables
+pub mod Folder
+pub mod FeedFaults
+pub mod Locations
+pub mod TimesFaults
+pub mod QueryFaults
+pub mod FeedValue
+pub mod TimesValue
+pub mod Soundness
+pub mod Noted
+pub mod Indexes
+pub mod Told

@@ -1,0 +1,9 @@
+use Rattle.feed_tables.proofs.Trims.{leading-between}
+use Rattle.feed_tables.proofs.fields.trim_blanks.Goals as goal
+
+pub range_from-rest-requires : goal.range_from-rest-requires
+range_from-rest-requires c =
+    let bytes = c.as_bytes.ensures.value in
+    let bound = rw bytes at c.leading_blanks-start.ensures.bound in
+    let blank = rw bytes at c.leading_blanks-start.ensures.blank in
+    λ _. leading-between c.args.field.now c.leading_blanks-start.result c.utf8.field bound blank

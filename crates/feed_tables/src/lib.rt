@@ -1,0 +1,16 @@
+//! The records of a table's bytes, lent from one pool of text.
+#![tactic(auto)]
+
+mod fields;
+mod pool;
+mod records;
+mod refusal;
+mod rows;
+mod table;
+
+pub use refusal::{MAX_ROWS, TableRefusal};
+pub use rows::{RowView, Rows};
+pub use table::Table;
+
+#[cfg(test)]
+mod tests;

@@ -1,0 +1,90 @@
+// The records of a table after its header.
+
+ghost use Rattle.std.specs.Prelude.{◌≡◌, ◌≤◌, ◌<◌, length};
+ghost use Rattle.feed_tables.specs.Fields.{value_at};
+ghost use Rattle.feed_tables.specs.Records.{rows_of};
+
+use crate::table::Table;
+use std::marker::Model;
+
+/// The records of a table after its header, in order.
+#[derive(Drop)]
+pub struct Rows<'a> {
+    table: &'a Table,
+    place: usize,
+}
+
+impl<'a> Model for Rows<'a> {
+    ghost use Rattle.std.specs.Prelude.{List, ◌+◌, ◌≤◌, ◌<◌, drop, length};
+    ghost use Rattle.feed_tables.specs.Records.{RowFields, numbered_from};
+
+    ghost Value = { List RowFields };
+
+    ghost view = { λ r. numbered_from (r.place + 1) (drop r.place r.table.now) };
+
+    ghost invariant = { λ r. (0 < r.place) × (r.place ≤ length r.table.now) };
+}
+
+impl<'a> Rows<'a> {
+    pub(crate) fn new(table: &'a Table) -> Rows<'a>
+        requires { 0 < length table.now }
+        ensures { result ≡ rows_of table.now }
+    {
+        Rows { table, place: 1 }
+    }
+}
+
+impl<'a> Iterator for Rows<'a> {
+    type Item = RowView<'a>;
+
+    ghost use Rattle.std.specs.Iterator.{YieldsFirst, item_count};
+
+    ghost remaining = { item_count (λ rows. rows) };
+
+    ghost next_gives = { YieldsFirst (λ rows. rows) };
+
+    fn next(&mut self) -> Option<RowView<'a>> {
+        let table = self.table;
+        let place = self.place;
+        if place >= table.record_count() {
+            return None;
+        }
+        self.place += 1;
+        Some(RowView { table, place })
+    }
+}
+
+/// A record of a table after its header.
+#[derive(Drop)]
+pub struct RowView<'a> {
+    table: &'a Table,
+    place: usize,
+}
+
+impl<'a> Model for RowView<'a> {
+    ghost use Rattle.std.specs.Prelude.{◌+◌, ◌^◌, ◌<◌, [], get_or, length};
+    ghost use Rattle.feed_tables.specs.Records.{RowFields};
+
+    ghost Value = { RowFields };
+
+    ghost view = { λ r. record { number = r.place + 1; fields = get_or r.table.now r.place [] } };
+
+    ghost invariant = { λ r. (0 < r.place) × (r.place < length r.table.now) × (r.place + 1 < 2 ^ 64) };
+}
+
+impl<'a> RowView<'a> {
+    /// The field of a column, empty where the record is too short.
+    pub fn field(&self, column: u32) -> &'a str
+        ensures { result.now ≡ value_at self.now.fields column }
+    {
+        let table = self.table;
+        table.field_at(self.place, column as usize)
+    }
+
+    /// The row number: the header has 1, and each record after it one more than the one before.
+    pub fn number(&self) -> u64
+        ensures { result ≡ self.now.number }
+    {
+        self.place as u64 + 1
+    }
+}

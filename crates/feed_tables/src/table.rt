@@ -1,0 +1,209 @@
+// Tables.
+
+ghost use Rattle.std.specs.Prelude.{◌≡◌, ◌≢◌, ◌≤◌, ◌<◌, ◌+◌, ◌-◌, ◌^◌, ◌++◌, ◌∷◌, ◌⊎◌, [], IfErr, IfOk, None, OnErr, OnOk, Some, drop, filter, length, map, position, sum_by, true, false, get_or};
+ghost use Rattle.std.specs.List.{list_all, list_any};
+ghost use Rattle.std.specs.Str.{bytes_eq, is_utf8};
+ghost use Rattle.csv.specs.Records.{fields_of};
+ghost use Rattle.feed_tables.specs.Fields.{trimmed, value_at};
+ghost use Rattle.feed_tables.specs.Parts.{EndAt, parts};
+ghost use Rattle.feed_tables.specs.Records.{header_of, rows_of, table_records};
+ghost use Rattle.feed_tables.specs.Refusals.{first_refusal, has_duplicate, is_given, refusal_of};
+
+use crate::fields::{trim_blanks, without_mark};
+use crate::pool::Pool;
+use crate::records::RecordReader;
+use crate::refusal::{MAX_ROWS, TableRefusal};
+use crate::rows::Rows;
+use csv::StringRecord;
+use flex_model::NoMemory;
+use std::alloc::Global;
+use std::collections::BTreeMap;
+use std::marker::Model;
+
+/// The records of a table's bytes, header first. Their fields lie in one pool of text.
+#[derive(Drop)]
+pub struct Table {
+    pool: Pool,
+    // How many fields of the pool end with each record.
+    ends: Vec<usize>,
+}
+
+impl Model for Table {
+    ghost use Rattle.std.specs.Prelude.{ℕ, List};
+    ghost use Rattle.feed_tables.specs.Parts.{IsTable, parts};
+
+    ghost Value = { List (List (List ℕ)) };
+
+    ghost view = { λ t. parts 0 t.ends.items t.pool };
+
+    ghost invariant = { λ t. IsTable t.ends.items t.pool };
+}
+
+// Adds a record's fields without the blanks around them.
+fn push_fields(pool: &mut Pool, raw: &StringRecord) -> Result<(), NoMemory>
+    requires { sum_by length pool.old + sum_by length (fields_of raw.now) < 2 ^ 32 }
+    ensures fields { OnOk result (pool.new ≡ pool.old ++ map trimmed (fields_of raw.now)) }
+    ensures text { OnOk result (list_all is_utf8 (map trimmed (fields_of raw.now)) ≡ true) }
+{
+    for field in raw.iter() {
+        pool.push(trim_blanks(field))?;
+    }
+    Ok(())
+}
+
+// Whether a field from this place on isn't empty.
+fn has_given(pool: &Pool, from: usize) -> bool
+    ensures { result ≡ list_any is_given (drop from pool.now) }
+{
+    for place in from..pool.len() {
+        if !pool.get(place).is_empty() {
+            return true;
+        }
+    }
+    false
+}
+
+// Whether a name that isn't empty stands in a header twice.
+fn repeats_name(alloc: Global, header: &Pool) -> Result<bool, NoMemory>
+    ensures { IfOk result (λ twice. twice ≡ has_duplicate (filter is_given header.now)) }
+{
+    let mut later = BTreeMap::new(alloc);
+    for back in 0..header.len() {
+        let name = header.get(header.len() - back - 1);
+        if name.is_empty() {
+            continue;
+        }
+        if later.insert(name, ())?.is_some() {
+            return Ok(true);
+        }
+    }
+    Ok(false)
+}
+
+// Adds the header of a table.
+fn push_header(
+    alloc: Global,
+    pool: &mut Pool,
+    ends: &mut Vec<usize>,
+    raw: &StringRecord,
+) -> Result<(), TableRefusal>
+    requires pool { pool.old ≡ [] }
+    requires ends { ends.old.items ≡ [] }
+    requires room { sum_by length (fields_of raw.now) < 2 ^ 32 }
+    ensures fields { OnOk result (pool.new ≡ map trimmed (fields_of raw.now)) }
+    ensures ends { OnOk result (ends.new.items ≡ length (fields_of raw.now) ∷ []) }
+    ensures sound { OnOk result (refusal_of (length (fields_of raw.now)) 0 (map trimmed (fields_of raw.now)) ≡ None) }
+    ensures refused { IfErr result (λ e. (e ≡ TableRefusal.NoMemory)
+        ⊎ (refusal_of (length (fields_of raw.now)) 0 (map trimmed (fields_of raw.now)) ≡ Some e)) }
+{
+    push_fields(pool, raw)?;
+    let twice = repeats_name(alloc, pool)?;
+    if twice {
+        return Err(TableRefusal::DuplicateColumn);
+    }
+    ends.push(pool.len())?;
+    Ok(())
+}
+
+// Adds a record after the header, which stands at this place and has so many columns.
+fn push_row(
+    pool: &mut Pool,
+    ends: &mut Vec<usize>,
+    raw: &StringRecord,
+    columns: usize,
+    place: u64,
+) -> Result<(), TableRefusal>
+    requires low { 0 < place }
+    requires high { place ≤ MAX_ROWS }
+    requires cut { EndAt 0 ends.old.items (length pool.old) }
+    requires room { sum_by length pool.old + sum_by length (fields_of raw.now) < 2 ^ 32 }
+    ensures fields { OnOk result (pool.new ≡ pool.old ++ map trimmed (fields_of raw.now)) }
+    ensures record { OnOk result (parts 0 ends.new.items pool.new ≡ parts 0 ends.old.items pool.old ++ map trimmed (fields_of raw.now) ∷ []) }
+    ensures ends { OnOk result (ends.new.items ≡ ends.old.items ++ length pool.new ∷ []) }
+    ensures cut { OnOk result (EndAt 0 ends.new.items (length pool.new)) }
+    ensures sound { OnOk result (refusal_of columns place (map trimmed (fields_of raw.now)) ≡ None) }
+    ensures refused { IfErr result (λ e. (e ≡ TableRefusal.NoMemory)
+        ⊎ (refusal_of columns place (map trimmed (fields_of raw.now)) ≡ Some e)) }
+{
+    let start = pool.len();
+    push_fields(pool, raw)?;
+    let width = pool.len() - start;
+    if columns < width && has_given(pool, start + columns) {
+        return Err(TableRefusal::RowTooLong { row: place + 1 });
+    }
+    ends.push(pool.len())?;
+    Ok(())
+}
+
+impl Table {
+    /// The table of a file's bytes, or the first rule that they break.
+    pub fn read(alloc: Global, bytes: &[u8]) -> Result<Table, TableRefusal>
+        requires { length bytes.now < 2 ^ 32 }
+        ensures records { IfOk result (λ table. table ≡ table_records bytes.now) }
+        ensures accepted { OnOk result (first_refusal (table_records bytes.now) ≡ None) }
+        ensures refused { IfErr result (λ e. (e ≡ TableRefusal.NoMemory) ⊎ (first_refusal (table_records bytes.now) ≡ Some e)) }
+    {
+        let mut left = RecordReader::new(alloc, without_mark(bytes));
+        let mut raw = StringRecord::new(alloc);
+        if !left.next(&mut raw, 1)? {
+            return Err(TableRefusal::NoHeader);
+        }
+        let columns = raw.len();
+        let mut pool = Pool::with_room(alloc, bytes.len())?;
+        let mut ends = Vec::new(alloc);
+        push_header(alloc, &mut pool, &mut ends, &raw)?;
+        for place in 1..MAX_ROWS + 1 {
+            if !left.next(&mut raw, place + 1)? {
+                return Ok(Table { pool, ends });
+            }
+            push_row(&mut pool, &mut ends, &raw, columns, place)?;
+        }
+        if left.has_next(alloc)? {
+            return Err(TableRefusal::TooManyRows);
+        }
+        Ok(Table { pool, ends })
+    }
+
+    /// The place of the column with this name.
+    pub fn column(&self, name: &str) -> Option<u32>
+        requires { name.now ≢ [] }
+        ensures { result ≡ position (bytes_eq name.now) (header_of self.now) }
+    {
+        for column in 0..self.ends[0] {
+            if name == self.pool.get(column) {
+                return Some(column as u32);
+            }
+        }
+        None
+    }
+
+    /// The records after the header, in order.
+    pub fn rows(&self) -> Rows<'_>
+        ensures rows { result ≡ rows_of self.now }
+        ensures few { length result ≤ MAX_ROWS }
+    {
+        let _ends = &self.ends;
+        Rows::new(self)
+    }
+
+    // How many records there are, with the header.
+    pub(crate) fn record_count(&self) -> usize
+        ensures { result ≡ length self.now }
+    {
+        self.ends.len()
+    }
+
+    // The field of a record after the header, at a place in it.
+    pub(crate) fn field_at(&self, place: usize, column: usize) -> &str
+        requires low { 0 < place }
+        requires high { place < length self.now }
+        ensures { result.now ≡ value_at (get_or self.now place []) column }
+    {
+        let start = self.ends[place - 1];
+        let width = self.ends[place] - start;
+        if column >= width {
+            return "";
+        }
+        self.pool.get(start + column)
+    }
+}

@@ -1,0 +1,20 @@
+pub mod CivilDays
+pub mod CivilLemmas
+pub mod DateLemmas
+pub mod DateParts
+pub mod DecimalLemmas
+pub mod DegreeLemmas
+pub mod EscapeLemmas
+mod Examples
+pub mod MomentLemmas
+pub mod MomentRanges
+pub mod MomentSpelling
+pub mod NumberLemmas
+pub mod NumeralLemmas
+pub mod OnLiterals
+pub mod ShapeLemmas
+pub mod SpellingLemmas
+pub mod TextLemmas
+pub mod TimeLemmas
+pub mod UnescapeLemmas
+pub mod WordLemmas

@@ -1,0 +1,5 @@
+use Rattle.field_text.proofs.EscapeLemmas.{escapes_are_read_back}
+use Rattle.field_text.proofs.laws.escapes_are_read_back.Goals as goal
+
+pub returns : goal.returns
+returns c = escapes_are_read_back

@@ -1,0 +1,5 @@
+use Rattle.field_text.proofs.DecimalLemmas.{numbers_are_read_back}
+use Rattle.field_text.proofs.laws.numbers_are_read_back.Goals as goal
+
+pub returns : goal.returns
+returns c = numbers_are_read_back

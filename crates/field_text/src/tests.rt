@@ -1,0 +1,124 @@
+use super::*;
+use flex_model::Text;
+use std::test::Fail;
+
+#[test]
+fn reads_times(rt: HostRuntime) {
+    for (text, seconds) in [("24:00:00", 86_400), ("167:59:59", 604_799)] {
+        assert_eq!(rt; read_time(text), Ok(seconds));
+    }
+    for text in ["168:00:00", "7:5:00", "07:00:60", " 7:00:00", "07:00", ""] {
+        assert_eq!(rt; read_time(text), Err(BadTime));
+    }
+}
+
+#[test]
+fn reads_dates(rt: HostRuntime) {
+    for (text, day) in [
+        ("20240229", 19_782),
+        ("00010101", -719_162),
+        ("99991231", 2_932_896),
+    ] {
+        assert_eq!(rt; read_date(text), Ok(day));
+    }
+    for text in ["20250229", "00000101", "2025604", " 20250604"] {
+        assert_eq!(rt; read_date(text), Err(BadDate));
+    }
+}
+
+#[test]
+fn reads_counts(rt: HostRuntime) {
+    let most = u64::MAX;
+    for (text, number) in [("00000000000000000007", 7), ("18446744073709551615", most)] {
+        assert_eq!(rt; read_count(text, most), Ok(number));
+    }
+    for text in ["18446744073709551616", "000000000000000000007", "+7", ""] {
+        assert_eq!(rt; read_count(text, most), Err(BadNumber));
+    }
+    assert_eq!(rt; read_count("86401", 86_400), Err(BadNumber));
+}
+
+#[test]
+fn reads_moments(rt: HostRuntime) {
+    for (text, moment) in [
+        ("1980-01-01T00:00:00Z", 315_532_800),
+        ("2025-06-04T07:30:00Z", 1_749_022_200),
+        ("2209-12-31T23:59:59Z", 7_573_651_199),
+    ] {
+        assert_eq!(rt; read_moment(text), Ok(moment));
+    }
+    for text in [
+        "1979-12-31T23:59:59Z",
+        "2210-01-01T00:00:00Z",
+        "2025-02-29T00:00:00Z",
+        "2025-06-04T24:00:00Z",
+        "2025-06-04 07:30:00Z",
+    ] {
+        assert_eq!(rt; read_moment(text), Err(BadMoment));
+    }
+}
+
+#[test]
+fn reads_degrees(rt: HostRuntime) {
+    let greatest = 180_000_000_000_000_000;
+    for (text, degree) in [
+        ("5.12345678901234567", 5_123_456_789_012_345),
+        ("5e-1", 500_000_000_000_000),
+        ("-180", -180_000_000_000_000_000),
+        ("180.0000000000000009", 180_000_000_000_000_000),
+        ("-0.0000000000000009", 0),
+        (
+            "+00000000000000000000000000000000000000000000000000000001.5E0002",
+            150_000_000_000_000_000,
+        ),
+        ("0e9999", 0),
+        ("9e-9999", 0),
+    ] {
+        assert_eq!(rt; read_degree(text, greatest), Ok(degree));
+    }
+    for text in [
+        "180.000000000000001",
+        "5.1.2",
+        "1e99",
+        "9e9999",
+        ".",
+        "5e00001",
+        "+000000000000000000000000000000000000000000000000000000001.5E0002",
+    ] {
+        assert_eq!(rt; read_degree(text, greatest), Err(BadCoordinate));
+    }
+}
+
+#[test]
+fn writes_numbers_dates_and_moments(rt: HostRuntime) -> Result<(), Fail> {
+    let mut text = Text::new(rt.alloc());
+    write_number(u64::MAX, &mut text)?;
+    text.append(" ")?;
+    write_number(0, &mut text)?;
+    text.append(" ")?;
+    write_date(20_243, &mut text)?;
+    text.append(" ")?;
+    write_date(-719_162, &mut text)?;
+    text.append(" ")?;
+    write_moment(1_749_022_200, &mut text)?;
+    assert_eq!(rt;
+        text.as_str(),
+        "18446744073709551615 0 20250604 00010101 2025-06-04T07:30:00Z"
+    );
+    Ok(())
+}
+
+#[test]
+fn escapes_ids_and_reads_them_back(rt: HostRuntime) -> Result<(), Fail> {
+    let mut text = Text::new(rt.alloc());
+    escape_id("Høj 5%", &mut text)?;
+    assert_eq!(rt; text.as_str(), "H%C3%B8j%205%25");
+    let mut id = Text::new(rt.alloc());
+    unescape_id(text.as_str(), &mut id)?;
+    assert_eq!(rt; id.as_str(), "Høj 5%");
+    for text in ["%41", "%c3%b8", "%FF", "%C3", "%2", "a b", "ø", ""] {
+        assert_eq!(rt; unescape_id(text, &mut id), Err(UnescapeError::BadEscape));
+    }
+    assert_eq!(rt; id.as_str(), "Høj 5%");
+    Ok(())
+}

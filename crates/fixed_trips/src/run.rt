@@ -1,0 +1,102 @@
+// The ride between two records with times.
+
+ghost use Rattle.std.specs.Prelude.{◌≡◌, ◌↔◌, ◌<◌, ℤ, IfSome, IsTrue};
+ghost use Rattle.flex_model.specs.Place.{Serves};
+ghost use Rattle.flex_model.specs.Run.{IsInRuns, IsRunOf, Leg};
+ghost use Rattle.flex_model.specs.SoundFeed.{IsSoundFeed};
+ghost use Rattle.flex_model.specs.SoundQuery.{IsSoundDayTable};
+ghost use Rattle.flex_model.specs.declared.feed.Feed.{Feed};
+ghost use Rattle.flex_model.specs.declared.times.Times.{Times};
+ghost use Rattle.fixed_trips.specs.Timed.{HasTimes, HasTiming, IsSingle, IsTimed, MayRide, NamesStop};
+
+use flex_model::{Arrives, DayTable, Feed, Place, Row, Run, Spot, Timing, Way};
+use service_days::{is_running, moment};
+
+// Whether the record names just this place.
+fn is_at(row: &Row, place: Place) -> bool
+    requires { NamesStop row.now.spot }
+    ensures { (feed : Feed) (times : Times) → IsTrue result ↔ Serves feed times row.now.spot place }
+{
+    match row.spot {
+        Spot::Stop(stop) => place == Place::Stop(stop),
+        _ => false,
+    }
+}
+
+// Whether one may board at the one record and place, and alight at the other.
+fn may_ride(boarding: &Row, alighting: &Row, board: Place, alight: Place) -> bool
+    requires boards { NamesStop boarding.now.spot }
+    requires alights { NamesStop alighting.now.spot }
+    ensures { (feed : Feed) (times : Times) → IsTrue result ↔ MayRide feed times boarding.now alighting.now board alight }
+{
+    if boarding.pickup == Way::No || alighting.drop_off == Way::No {
+        return false;
+    }
+    is_at(boarding, board) && is_at(alighting, alight)
+}
+
+// The ride of the day that leaves and arrives at the times of the records.
+fn timed_run(days: &DayTable, day: i32, boarding: Timing, alighting: Timing) -> Option<Run>
+    requires days { IsSoundDayTable days.now }
+    requires boards { IsTimed boarding }
+    requires alights { IsTimed alighting }
+    ensures rides { (times : Times) (leg : Leg) (departs arrives : ℤ) → leg.day ≡ day
+        → IsInRuns result departs arrives ↔ HasTiming times days.now leg boarding alighting departs arrives }
+    ensures single { IfSome result IsSingle }
+{
+    let Timing::Times { departs, .. } = boarding else {
+        return None;
+    };
+    let Timing::Times { arrives, .. } = alighting else {
+        return None;
+    };
+    let first = moment(days, day, departs)?;
+    let last = moment(days, day, arrives)?;
+    Some(Run {
+        first,
+        count: 1,
+        arrives: Arrives::At(last),
+    })
+}
+
+/// The run of the trip on the service day from the one record to the other, between the two places: the one
+/// permitted ride, which leaves at the departure of the one record and arrives at the arrival of the other. Both
+/// records have times. There is none where no such ride is permitted: where the records are not in order, the
+/// trip does not run on the day or is repeated by headways, a record does not name its place, or one may not
+/// board or alight there.
+pub fn fixed_run(
+    feed: &Feed,
+    days: &DayTable,
+    trip: u32,
+    day: i32,
+    from_row: u32,
+    to_row: u32,
+    board: Place,
+    alight: Place,
+) -> Option<Run>
+    requires feed { IsSoundFeed feed.now }
+    requires days { IsSoundDayTable days.now }
+    requires from_row { HasTimes feed.now trip from_row }
+    requires to_row { HasTimes feed.now trip to_row }
+    ensures rides { (times : Times) → IsRunOf feed.now times days.now (record {
+      trip = trip;
+      day = day;
+      from_row = from_row;
+      to_row = to_row;
+      board = board;
+      alight = alight;
+    }) result }
+    ensures single { IfSome result IsSingle }
+{
+    let trip_record = &feed.trips.as_slice()[trip as usize];
+    let rows = trip_record.rows.as_slice();
+    let boarding = &rows[from_row as usize];
+    let alighting = &rows[to_row as usize];
+    if to_row <= from_row
+        || !is_running(feed, days, trip_record, day)
+        || !may_ride(boarding, alighting, board, alight)
+    {
+        return None;
+    }
+    timed_run(days, day, boarding.timing, alighting.timing)
+}

@@ -1,0 +1,4 @@
+pub mod BackDays
+pub mod Flags
+pub mod TableDays
+pub mod ZoneTables

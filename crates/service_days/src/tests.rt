@@ -1,0 +1,159 @@
+ghost use Rattle.std.specs.Prelude.{◌≡◌, IfOk, length};
+
+use super::*;
+use flex_model::{Feed, Listed, Moment, NoMemory, Service, Text, Trip};
+use std::alloc::Global;
+use std::test::Fail;
+
+// Days of June 2025: the 2nd was a Monday.
+const MONDAY: i32 = 20_241;
+
+const WEDNESDAY: i32 = 20_243;
+
+const THURSDAY: i32 = 20_244;
+
+const FRIDAY: i32 = 20_245;
+
+const NEXT_MONDAY: i32 = 20_248;
+
+// 2025-06-04T07:30:00Z, and the midnight before.
+const DEPART: Moment = 1_749_022_200;
+
+const MIDNIGHT: Moment = 1_748_995_200;
+
+// Mondays to Fridays of 2025, with one date that adds a day and one that removes one.
+fn weekdays(alloc: Global, added: i32, removed: i32) -> Result<Service, NoMemory> {
+    let mut service = Service {
+        id: Text::new(alloc),
+        flags: [true, true, true, true, true, false, false],
+        first: 20_089,
+        last: 20_453,
+        added: Listed::new(alloc),
+        removed: Listed::new(alloc),
+    };
+    service.added.push(added)?;
+    service.removed.push(removed)?;
+    Ok(service)
+}
+
+// No weekly rule, and one date that adds a day.
+fn one_day(alloc: Global, added: i32) -> Result<Service, NoMemory> {
+    let mut service = Service {
+        id: Text::new(alloc),
+        flags: [false; 7],
+        first: 1,
+        last: 0,
+        added: Listed::new(alloc),
+        removed: Listed::new(alloc),
+    };
+    service.added.push(added)?;
+    Ok(service)
+}
+
+// A feed with this service and nothing else.
+fn one_service(alloc: Global, service: Service) -> Result<Feed, NoMemory>
+    ensures { IfOk result (λ feed. length feed.services ≡ 1) }
+{
+    let mut services = Listed::new(alloc);
+    services.push(service)?;
+    Ok(Feed {
+        stops: Listed::new(alloc),
+        zones: Listed::new(alloc),
+        groups: Listed::new(alloc),
+        services,
+        rules: Listed::new(alloc),
+        trips: Listed::new(alloc),
+        changes: Listed::new(alloc),
+    })
+}
+
+#[test]
+fn follows_the_week_and_the_dates(rt: HostRuntime) -> Result<(), Fail> {
+    let service = weekdays(rt.alloc(), FRIDAY + 1, FRIDAY)?;
+    let cases = [
+        (20_088, false),
+        (20_089, true),
+        (MONDAY, true),
+        (WEDNESDAY, true),
+        (THURSDAY, true),
+        (FRIDAY, false),
+        (FRIDAY + 1, true),
+        (FRIDAY + 2, false),
+        (NEXT_MONDAY, true),
+        (20_453, true),
+        (20_454, false),
+        (i32::MIN, false),
+        (i32::MAX, false),
+    ];
+    for (day, runs) in cases {
+        assert_eq!(rt; active(&service, day), runs);
+    }
+    let both = weekdays(rt.alloc(), FRIDAY, FRIDAY)?;
+    assert!(rt; active(&both, FRIDAY));
+    Ok(())
+}
+
+#[test]
+fn counts_active_days_back(rt: HostRuntime) -> Result<(), Fail> {
+    let service = weekdays(rt.alloc(), MONDAY, FRIDAY)?;
+    for (n, day) in [(0, NEXT_MONDAY), (1, THURSDAY), (2, WEDNESDAY)] {
+        assert_eq!(rt; days_back(&service, NEXT_MONDAY, n), Some(day));
+    }
+    let single = one_day(rt.alloc(), WEDNESDAY)?;
+    let cases = [
+        (WEDNESDAY, None),
+        (WEDNESDAY + 1_500, Some(WEDNESDAY)),
+        (WEDNESDAY + 1_501, None),
+        (i32::MIN, None),
+    ];
+    for (day, earlier) in cases {
+        assert_eq!(rt; days_back(&single, day, 1), earlier);
+    }
+    Ok(())
+}
+
+#[test]
+fn begins_days_at_midnight_in_utc(rt: HostRuntime) -> Result<(), Fail> {
+    let days = day_table(rt.alloc(), &utc_zone(), DEPART)?;
+    let base = days.base.as_slice();
+    assert_eq!(rt; base.first().copied(), Some(MIDNIGHT - 1_520 * 86_400));
+    assert_eq!(rt; base.last().copied(), Some(MIDNIGHT + 5 * 86_400));
+    assert_eq!(rt; moment(&days, WEDNESDAY, 90_600), Some(MIDNIGHT + 90_600));
+    assert_eq!(rt; first_travel_day(&days), WEDNESDAY - 16);
+    let cases = [
+        (WEDNESDAY - 1_521, None, false),
+        (WEDNESDAY - 17, Some(MIDNIGHT - 17 * 86_400), false),
+        (WEDNESDAY - 16, Some(MIDNIGHT - 16 * 86_400), true),
+        (WEDNESDAY + 5, Some(MIDNIGHT + 5 * 86_400), true),
+        (WEDNESDAY + 6, None, false),
+    ];
+    for (day, base, travels) in cases {
+        assert_eq!(rt; begin(&days, day), base);
+        assert_eq!(rt; is_travel_day(&days, day), travels);
+    }
+    Ok(())
+}
+
+#[test]
+fn counts_on_the_service_of_a_feed(rt: HostRuntime) -> Result<(), Fail> {
+    let feed = one_service(rt.alloc(), weekdays(rt.alloc(), MONDAY, FRIDAY)?)?;
+    assert_eq!(rt; count_back(&feed, Some(0), NEXT_MONDAY, 2), Some(WEDNESDAY));
+    assert_eq!(rt; count_back(&feed, None, NEXT_MONDAY, 2), Some(FRIDAY + 1));
+    Ok(())
+}
+
+#[test]
+fn runs_trips_on_travel_days(rt: HostRuntime) -> Result<(), Fail> {
+    let days = day_table(rt.alloc(), &utc_zone(), DEPART)?;
+    let feed = one_service(rt.alloc(), weekdays(rt.alloc(), MONDAY, FRIDAY)?)?;
+    let trip = Trip {
+        id: Text::new(rt.alloc()),
+        service: 0,
+        frequent: false,
+        rows: Listed::new(rt.alloc()),
+    };
+    for (day, runs) in [(WEDNESDAY, true), (FRIDAY, false), (WEDNESDAY - 21, false)] {
+        assert_eq!(rt; is_running(&feed, &days, &trip, day), runs);
+    }
+    Ok(())
+}
