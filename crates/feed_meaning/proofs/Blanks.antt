@@ -1,7 +1,5 @@
 -- A table lacks its header just where it has no record at all.
-use Rattle.std.proofs.Common.{◌≡◌, ℕ, ◌+◌, Bool, true, false, not, ◌&&◌, List, [], ◌∷◌, Option, Some, None, length, refl, sym, ◌∙◌, ap}
-use Rattle.std.specs.Prelude.{if◌then◌else◌}
-use Rattle.std.specs.Option.{option_or}
+use Rattle.std.proofs.Common.{◌≡◌, ℕ, ◌+◌, true, false, List, [], ◌∷◌, Option, Some, length, refl, sym}
 use Rattle.feed_tables.specs.Refusals.{first_refusal, first_refusal_from, refusal_of}
 use Rattle.feed_tables.specs.declared.refusal.TableRefusal.{TableRefusal}
 use Rattle.feed_tables.specs.declared.refusal.TableRefusal.TheVariants as refusal

@@ -1,11 +1,13 @@
 -- How large the values of fields are.
-use Rattle.std.proofs.Common.{◌≡◌, ℕ, zero, suc, ◌+◌, ◌*◌, ◌^◌, ◌<◌, ◌≤◌, Bool, true, false, not, ◌&&◌, ◌||◌, List, [], ◌∷◌, ◌++◌, length, pos, Option, Some, None, refl, sym, arith}
-use Rattle.std.specs.Prelude.{nat_le, unwrap_or, unsigned_abs, int_le, is_none, ◌+ℤ◌, ◌-ℤ◌}
-use Rattle.std.specs.List.{after_first, before_first, list_any}
+use Rattle.std.proofs.Common.{◌≡◌, ℕ, ◌+◌, ◌*◌, ◌^◌, ◌<◌, ◌≤◌, Bool, true, false, ◌&&◌, List, [], ◌∷◌, ℤ, pos, Option, Some, None, refl, sym, arith}
+use Rattle.std.specs.Prelude.{nat_le, unwrap_or, unsigned_abs, is_none}
+use Rattle.std.specs.List.{after_first, before_first}
 use Rattle.std.proofs.lemmas.Bool.{and_parts, false≢true, leb-true}
+use Rattle.std.proofs.lemmas.Int.{ints}
+use Rattle.field_text.proofs.NumeralLemmas.{degree_within-bound}
 use Rattle.feed_tables.specs.Refusals.{is_given}
 use Rattle.flex_model.specs.SoundTimes.{IsOnGlobe}
-use Rattle.field_text.specs.Grammars.{count, has_digits, is_colon, is_exponent_mark, is_minus, is_point, number, scaled, signed, some_if, time, unsigned}
+use Rattle.field_text.specs.Grammars.{count, degree, has_digits, is_colon, number, some_if, time}
 use Rattle.feed_meaning.specs.FeedValue.{coordinate, seconds}
 use Rattle.feed_meaning.specs.Rules.{is_bad}
 
@@ -62,34 +64,12 @@ seconds_low text = seconds_of_time text (time text) refl
 
 -- ---- degrees
 
-int_le-pos : (a b : ℕ) → int_le (pos a) (pos b) ≡ true → a ≤ b
-int_le-pos a b e = leb-true a b e
-
-abs-signed : (b : Bool) (n : ℕ) → unsigned_abs (signed b n) ≡ n
-abs-signed false n = refl
-abs-signed true zero = refl
-abs-signed true (suc n) = refl
-
-signed-low : (test : Bool) (size most : ℕ) (is_negative : Bool) → unsigned_abs (unwrap_or (some_if (test && int_le (pos size) (pos most)) (signed is_negative size)) (pos 0)) ≤ most
-signed-low test size most is_negative = by (test && int_le (pos size) (pos most)) refl
-  where
-    by : (b : Bool) → test && int_le (pos size) (pos most) ≡ b → unsigned_abs (unwrap_or (some_if b (signed is_negative size)) (pos 0)) ≤ most
-    by false e = omega arith
-    by true e =
-        let low : size ≤ most = int_le-pos size most (and_parts test (int_le (pos size) (pos most)) e).1 in
-        let same = abs-signed is_negative size in
-        omega (arith, same, low)
-
 pub coordinate_low : (greatest : ℕ) (text : List ℕ) → unsigned_abs (coordinate greatest text) ≤ greatest * 10 ^ 15
-coordinate_low greatest text =
-    let has_exponent = list_any is_exponent_mark text in
-    let mantissa = unsigned (before_first is_exponent_mark text) in
-    let exponent = after_first is_exponent_mark text in
-    let whole = before_first is_point mantissa in
-    let fraction = after_first is_point mantissa in
-    let power = (signed (is_minus exponent) (number (unsigned exponent)) -ℤ pos (length fraction)) +ℤ pos 15 in
-    signed-low (nat_le (length text) 64 && has_digits 1 64 (whole ++ fraction) && (not has_exponent || has_digits 1 4 (unsigned exponent)))
-    (scaled (number (whole ++ fraction)) power) (greatest * 10 ^ 15) (is_minus text)
+coordinate_low greatest text = by (degree greatest text) refl
+  where
+    by : (o : Option ℤ) → degree greatest text ≡ o → unsigned_abs (unwrap_or o (pos 0)) ≤ greatest * 10 ^ 15
+    by None is = omega arith
+    by (Some z) is = let low = degree_within-bound (pos (greatest * 10 ^ 15)) text z is in omega (arith, ints, low)
 
 -- a position that is read is on the globe
 pub is_on_globe : (lon lat : List ℕ) → IsOnGlobe (record { lon = coordinate 180 lon; lat = coordinate 90 lat })

@@ -1,8 +1,7 @@
 -- Dates: the days that they may have, and their one spelling.
-use Rattle.std.proofs.Common.{◌≡◌, ℕ, zero, suc, ◌+◌, ◌-◌, ◌*◌, ◌^◌, ◌<◌, ◌≤◌, Bool, true, false, ◌&&◌, leb, nat_le, List, [], ◌∷◌, ◌++◌, length, take, drop, slice_range, ℤ, pos, negsuc, neg_ℤ, ◌+ℤ◌, ◌-ℤ◌, ◌<ℤ◌, ◌≤ℤ◌, Option, Some, None, Result, Ok, Err, IfOk, refl, sym, ap, ◌∙◌, subst, inl, inr, arith, rules}
-use Rattle.std.proofs.lemmas.Bool.{and_from, and_parts, cases_lt, le-leb, leb-true}
-use Rattle.std.proofs.lemmas.Bool.Decides.{nat_tests}
-use Rattle.std.proofs.lemmas.List.{drop-drop, length-append, length-drop, length-take-le, take-append-drop, take_all, append_assoc}
+use Rattle.std.proofs.Common.{◌≡◌, ℕ, suc, ◌+◌, ◌≤◌, Bool, true, ◌&&◌, List, ◌++◌, length, take, drop, ℤ, pos, negsuc, neg_ℤ, ◌<ℤ◌, ◌≤ℤ◌, Option, Some, Result, Ok, Err, IfOk, refl, sym, ap, ◌∙◌, subst, arith}
+use Rattle.std.proofs.lemmas.Bool.{and_from, and_parts, le-leb, leb-true}
+use Rattle.std.proofs.lemmas.List.{drop-drop, length-drop, length-take-le, take-append-drop, take_all, append_assoc}
 use Rattle.std.proofs.lemmas.List.Folds.{list_all-append}
 use Rattle.std.specs.Char.{is_ascii_digit}
 use Rattle.std.specs.List.{list_all}
@@ -11,11 +10,11 @@ use Rattle.jiff_core.specs.Calendar.{IsCivilDate, days_from_civil, days_in_month
 use Rattle.jiff_core.proofs.CalendarLemmas.{day_count-lt_year, days_from_civil-day_count, days_in_month_bounds}
 use Rattle.jiff_core.proofs.SignedLemmas.{signed_arith}
 use Rattle.field_text.specs.Grammars.{date, has_digits, is_civil, lies_in, number, some_if}
-use Rattle.field_text.specs.Texts.{IsPrintableDay, date_text, day_of_month, last_digits, month_of, year_of}
+use Rattle.field_text.specs.Texts.{IsPrintableDay, date_text, last_digits}
 use Rattle.field_text.proofs.CivilLemmas.{day_of_month-civil, month_of-civil, year_begun, year_of-civil}
 use Rattle.field_text.proofs.NumberLemmas.{some_if-passed, some_if-passes}
 use Rattle.field_text.proofs.OnLiterals.{field_text_on_literals}
-use Rattle.field_text.proofs.SpellingLemmas.{last_digits-are_digits, last_digits-number, length-last_digits, number-last_digits}
+use Rattle.field_text.proofs.SpellingLemmas.{last_digits-are_digits, last_digits-number, number-last_digits}
 use borrow.Author.Differences.{le-true}
 
 -- a number that lies between two

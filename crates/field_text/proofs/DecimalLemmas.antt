@@ -1,13 +1,12 @@
 -- Printed numbers.
-use Rattle.std.proofs.Common.{◌≡◌, ℕ, ◌+◌, ◌-◌, ◌*◌, ◌^◌, ◌<◌, ◌≤◌, true, List, length, Some, sym, arith, fold, rules}
+use Rattle.std.proofs.Common.{◌≡◌, ℕ, ◌^◌, ◌<◌, true, length, sym, arith, rules}
 use Rattle.std.specs.Prelude.{decimal}
 use Rattle.std.specs.Char.{is_ascii_digit}
 use Rattle.std.specs.List.{list_all}
-use Rattle.std.specs.Str.{byte}
 use Rattle.std.proofs.lemmas.Bool.{and_from, le-leb}
 use Rattle.std.proofs.lemmas.Fmt.{decimal_nonempty, digits_decimal, digits_value-decimal, length-decimal-le}
 use Rattle.std.proofs.lemmas.Str.Parse.{IsNumeralModel, numerals_by_fold}
-use Rattle.field_text.specs.Grammars.{count, number, number_after}
+use Rattle.field_text.specs.Grammars.{number, number_after}
 use Rattle.field_text.specs.Laws.{NumbersAreReadBack}
 use Rattle.field_text.proofs.DateLemmas.{lies_in-from}
 use Rattle.field_text.proofs.NumberLemmas.{some_if-passes}

@@ -1,14 +1,9 @@
 -- Escapes: what begins one is one byte's alone.
-use Rattle.std.proofs.Common.{◌≡◌, ℕ, zero, suc, ◌+◌, ◌-◌, ◌*◌, ◌/◌, ◌%◌, ◌<◌, ◌≤◌, Bool, true, false, ◌&&◌, cond, ltb, List, [], ◌∷◌, ◌++◌, length, get_or, take, drop, IsUtf8, refl, sym, ap, ◌∙◌, subst, inl, inr, arith, append_assoc}
-use Rattle.std.specs.List.{flat_map}
-use Rattle.std.specs.Str.{all_scalars, encode_utf8_all}
-use Rattle.std.proofs.lemmas.Bool.{and_parts, cases_Bool, cases_lt, le-ltb, lt-ltb}
+use Rattle.std.proofs.Common.{◌≡◌, ℕ, ◌/◌, ◌%◌, true, false, cond, List, [], ◌∷◌, ◌++◌, refl, sym, ap, ◌∙◌, subst, inl, inr, arith, append_assoc}
+use Rattle.std.proofs.lemmas.Bool.{cases_Bool}
 use Rattle.std.proofs.lemmas.Bool.Decides.{nat_tests}
-use Rattle.std.proofs.lemmas.List.{append-nil, length-append, take-append-le, take_at}
-use Rattle.std.proofs.lemmas.List.Concat.{flat_map-append}
-use Rattle.std.proofs.lemmas.Str.{IsCharBoundary-from_drop, IsUtf8-append, IsUtf8-encode, len_utf8_bounds, length-encode}
-use Rattle.std.proofs.Math.Utf8.{encode}
-use Rattle.field_text.specs.Grammars.{IsEscapeOf, escape, escaped_byte, hex_digit, is_plain}
+use Rattle.std.proofs.lemmas.List.{append-nil}
+use Rattle.field_text.specs.Grammars.{escape, escaped_byte, hex_digit, is_plain}
 use Rattle.field_text.specs.Laws.{EscapesAreOfOneId, EscapesAreReadBack}
 
 hex_digit-injective : (m n : ℕ) → hex_digit m ≡ hex_digit n → m ≡ n

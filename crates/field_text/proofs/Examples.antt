@@ -1,5 +1,5 @@
 -- The definitions on literal texts: what they accept, and what they don't.
-use Rattle.std.proofs.Common.{◌≡◌, List, [], ◌∷◌, pos, negsuc, Some, None, refl}
+use Rattle.std.proofs.Common.{◌≡◌, [], ◌∷◌, pos, negsuc, Some, None, refl}
 use Rattle.std.specs.Prelude.{codes}
 use Rattle.field_text.specs.Grammars.{choice, count, date, degree, degree_within, escape, id, moment, time}
 use Rattle.field_text.proofs.OnLiterals.{field_text_on_literals}

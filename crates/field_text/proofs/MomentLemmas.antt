@@ -1,5 +1,5 @@
 -- The moment of a text.
-use Rattle.std.proofs.Common.{◌≡◌, ℕ, ◌+◌, ◌*◌, Bool, true, false, ◌&&◌, nat_le, List, ℤ, pos, ◌+ℤ◌, ◌*ℤ◌, Some, None, slice_range, refl, ap, ◌∙◌}
+use Rattle.std.proofs.Common.{◌≡◌, ℕ, ◌+◌, ◌*◌, true, false, ◌&&◌, nat_le, List, ℤ, pos, ◌+ℤ◌, ◌*ℤ◌, Some, None, slice_range, refl, ap, ◌∙◌}
 use Rattle.std.proofs.lemmas.Bool.{and_from, and_parts}
 use Rattle.std.specs.Prelude.{codes}
 use Rattle.jiff_core.specs.Calendar.{days_from_civil}

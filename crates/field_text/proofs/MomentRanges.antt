@@ -1,5 +1,5 @@
 -- Moments of a range of years: they are read back, and a narrower range is a test of the number.
-use Rattle.std.proofs.Common.{◌≡◌, ℕ, suc, ◌+◌, ◌*◌, ◌/◌, ◌%◌, ◌<◌, ◌≤◌, Bool, true, false, ◌&&◌, leb, nat_le, List, ℤ, pos, ◌+ℤ◌, ◌*ℤ◌, ◌<ℤ◌, ◌≤ℤ◌, int_le, unsigned_abs, Option, Some, None, refl, sym, ap, ◌∙◌, subst, inl, inr, arith}
+use Rattle.std.proofs.Common.{◌≡◌, ℕ, suc, ◌+◌, ◌*◌, ◌/◌, ◌%◌, ◌<◌, ◌≤◌, true, false, ◌&&◌, leb, nat_le, List, ℤ, pos, ◌+ℤ◌, ◌*ℤ◌, ◌<ℤ◌, ◌≤ℤ◌, int_le, unsigned_abs, Option, Some, None, refl, sym, ap, ◌∙◌, subst, inl, inr, arith}
 use Rattle.std.specs.Int.{int_div_euclid, int_rem_euclid}
 use Rattle.std.proofs.lemmas.Bool.{and_from, and_parts, both_ways, cases_Bool, leb-false, leb-true}
 use Rattle.jiff_core.specs.Calendar.{days_from_civil}
@@ -10,7 +10,7 @@ use Rattle.field_text.specs.Texts.{IsPrintableDay, IsPrintableMoment, moment_tex
 use Rattle.field_text.proofs.CivilDays.{CivilOf, civil_of}
 use Rattle.field_text.proofs.CivilLemmas.{year_begun}
 use Rattle.field_text.proofs.DateLemmas.{IsCivilIn, civil_bounds, civil_from_test, test_from_civil}
-use Rattle.field_text.proofs.MomentSpelling.{IsClock, first_of_1980, first_of_2210, moment-text_at, moment_at, moment_text-at, parts_of_moment, read_at, read_at-passes, text_at, wider}
+use Rattle.field_text.proofs.MomentSpelling.{IsClock, first_of_1980, first_of_2210, moment-text_at, moment_at, moment_text-at, parts_of_moment, read_at, read_at-passes, wider}
 use Rattle.field_text.proofs.OnLiterals.{field_text_on_literals}
 use borrow.Author.Differences.{le-false, le-true}
 

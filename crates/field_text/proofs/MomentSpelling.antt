@@ -1,5 +1,5 @@
 -- Moments: those that a text may have, and their one spelling.
-use Rattle.std.proofs.Common.{◌≡◌, ℕ, ◌+◌, ◌-◌, ◌*◌, ◌/◌, ◌%◌, ◌<◌, ◌≤◌, Bool, true, false, ◌&&◌, nat_le, List, [], ◌∷◌, ◌++◌, length, take, drop, slice_range, ℤ, pos, negsuc, ◌+ℤ◌, ◌*ℤ◌, ◌<ℤ◌, ◌≤ℤ◌, unsigned_abs, Option, Some, None, Result, Ok, Err, IfOk, refl, sym, ap, ◌∙◌, subst, arith}
+use Rattle.std.proofs.Common.{◌≡◌, ℕ, ◌+◌, ◌*◌, ◌/◌, ◌%◌, ◌<◌, ◌≤◌, Bool, true, ◌&&◌, nat_le, List, [], ◌∷◌, ◌++◌, take, drop, ℤ, pos, ◌+ℤ◌, ◌*ℤ◌, unsigned_abs, Option, Some, Result, Ok, Err, IfOk, refl, sym, ap, ◌∙◌, subst, arith}
 use Rattle.std.specs.Prelude.{codes}
 use Rattle.std.specs.Int.{int_div_euclid, int_rem_euclid}
 use Rattle.std.specs.Result.{result_ok}
@@ -8,9 +8,8 @@ use Rattle.jiff_core.specs.Calendar.{days_from_civil}
 use Rattle.jiff_core.proofs.CalendarLemmas.{days_in_month_bounds}
 use Rattle.jiff_core.proofs.SignedLemmas.{signed_arith}
 use Rattle.field_text.specs.Grammars.{is_civil, is_shaped, moment, number, some_if}
-use Rattle.field_text.specs.Laws.{MomentsAreReadBack, MomentsHaveOneSpelling}
-use Rattle.field_text.specs.Texts.{IsPrintableDay, IsPrintableMoment, day_of_month, last_digits, moment_text, month_of, year_of}
-use Rattle.field_text.proofs.CivilDays.{civil_of}
+use Rattle.field_text.specs.Laws.{MomentsHaveOneSpelling}
+use Rattle.field_text.specs.Texts.{IsPrintableMoment, day_of_month, last_digits, moment_text, month_of, year_of}
 use Rattle.field_text.proofs.CivilLemmas.{day_of_month-civil, month_of-civil, year_of-civil}
 use Rattle.field_text.proofs.DateLemmas.{IsCivilIn, civil_bounds, civil_from_test, test_from_civil}
 use Rattle.field_text.proofs.NumberLemmas.{some_if-passed, some_if-passes}

@@ -1,5 +1,5 @@
 -- The bytes of printed days and moments.
-use Rattle.std.proofs.Common.{◌/◌, ◌%◌, ◌≡◌, ℕ, ◌+◌, ◌<◌, List, [], ◌∷◌, ◌++◌, get_or, ℤ, pos, IsAscii, true, refl, sym, ap, ◌∙◌, subst, arith}
+use Rattle.std.proofs.Common.{◌/◌, ◌%◌, ◌≡◌, ℕ, ◌<◌, List, [], ◌∷◌, ◌++◌, get_or, ℤ, pos, IsAscii, true, arith}
 use Rattle.std.specs.Prelude.{unsigned_abs}
 use Rattle.std.specs.Char.{is_ascii_digit}
 use Rattle.std.specs.Int.{int_div_euclid, int_rem_euclid}

@@ -1,8 +1,8 @@
 -- The seconds of a time.
-use Rattle.std.proofs.Common.{◌≡◌, ℕ, ◌+◌, ◌*◌, ◌<◌, ◌≤◌, Bool, true, ◌&&◌, nat_le, List, Some, arith, refl, sym}
-use Rattle.std.proofs.lemmas.Bool.{and_from, and_parts, leb-true}
+use Rattle.std.proofs.Common.{◌≡◌, ℕ, ◌+◌, ◌*◌, ◌<◌, ◌≤◌, List, Some, arith, sym}
+use Rattle.std.proofs.lemmas.Bool.{and_parts, leb-true}
 use Rattle.std.specs.List.{after_first, before_first}
-use Rattle.field_text.specs.Grammars.{digits_within, has_digits, is_colon, number, some_if, time}
+use Rattle.field_text.specs.Grammars.{digits_within, is_colon, time}
 use Rattle.field_text.proofs.NumberLemmas.{some_if-passed, some_if-passes}
 
 -- a time has the seconds of its three numbers

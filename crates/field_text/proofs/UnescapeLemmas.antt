@@ -1,16 +1,16 @@
 -- Reading an escape: one byte after the other, up to a character.
-use Rattle.std.proofs.Common.{◌≡◌, ◌≢◌, ℕ, zero, suc, ◌+◌, ◌-◌, ◌*◌, ◌/◌, ◌%◌, ◌<◌, ◌≤◌, Bool, true, false, ◌&&◌, cond, eqb, ltb, List, [], ◌∷◌, ◌++◌, length, get_or, set, take, drop, IsUtf8, refl, sym, ap, ◌∙◌, subst, inl, inr, arith, append_assoc}
+use Rattle.std.proofs.Common.{◌≡◌, ◌≢◌, ℕ, zero, suc, ◌+◌, ◌<◌, ◌≤◌, true, false, eqb, ltb, List, [], ◌∷◌, ◌++◌, length, set, take, IsUtf8, refl, sym, ap, ◌∙◌, subst, inl, inr, arith, append_assoc}
 use Rattle.std.specs.Str.{all_scalars, encode_utf8_all}
 use Rattle.std.specs.List.{list_all}
-use Rattle.std.proofs.lemmas.Bool.{and_from, and_parts, cases_Bool, cases_lt, eqb-false, eqb-true, ltb-true}
+use Rattle.std.proofs.lemmas.Bool.{and_from, and_parts, cases_lt, eqb-false, eqb-true, ltb-true}
 use Rattle.std.proofs.lemmas.Bool.Decides.{nat_tests}
-use Rattle.std.proofs.lemmas.List.{append-nil, drop_at, length-append, length-set, nil_from_length, take-append-le, take-set-le, take_all, take_at, take_more_set}
+use Rattle.std.proofs.lemmas.List.{append-nil, drop_at, length-append, nil_from_length, take-append-le, take-set-le, take_all, take_at, take_more_set}
 use Rattle.std.proofs.lemmas.List.Concat.{flat_map-append}
 use Rattle.std.proofs.lemmas.List.Folds.{list_all-append}
 use Rattle.std.proofs.lemmas.Str.{IsCharBoundary-from_take, IsUtf8-append, IsUtf8-nil, IsUtf8-drop, IsUtf8-encode, len_utf8_bounds, length-encode}
 use Rattle.std.proofs.Math.Utf8.{encode}
-use Rattle.field_text.specs.Escapes.{IsNoEscape, TakesPiece, Unescapes}
-use Rattle.field_text.specs.Grammars.{IsEscapeOf, escape, escaped_byte}
+use Rattle.field_text.specs.Escapes.{IsNoEscape, TakesPiece}
+use Rattle.field_text.specs.Grammars.{escape, escaped_byte}
 use Rattle.field_text.proofs.EscapeLemmas.{escape-front, escape-nil}
 
 -- the bytes of a text are bytes

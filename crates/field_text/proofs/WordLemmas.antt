@@ -1,5 +1,5 @@
 -- Printed texts are words: they have no blank, no line end and no byte past ASCII.
-use Rattle.std.proofs.Common.{◌≡◌, ℕ, ◌+◌, ◌/◌, ◌%◌, ◌^◌, ◌<◌, ◌≤◌, Bool, true, false, ltb, List, [], ◌∷◌, ◌++◌, ℤ, pos, cond, IsUtf8, refl, sym, ap, ◌∙◌, inl, inr, arith}
+use Rattle.std.proofs.Common.{◌≡◌, ℕ, ◌/◌, ◌%◌, ◌^◌, ◌<◌, Bool, true, ltb, List, [], ◌∷◌, ◌++◌, ℤ, pos, IsUtf8, refl, ap, ◌∙◌, inl, inr, arith}
 use Rattle.std.specs.Prelude.{decimal, unsigned_abs}
 use Rattle.std.specs.Char.{is_ascii_digit}
 use Rattle.std.specs.Int.{int_div_euclid, int_rem_euclid}

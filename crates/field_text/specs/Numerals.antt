@@ -1,5 +1,5 @@
 -- The degree of a numeral in parts.
-use Rattle.std.specs.Prelude.{◌+◌, ◌-◌, ◌*◌, ◌++◌, ℤ, pos, ◌+ℤ◌, ◌-ℤ◌, int_le, not, ◌&&◌, ◌||◌, Option, length}
+use Rattle.std.specs.Prelude.{◌++◌, ℤ, pos, ◌+ℤ◌, ◌-ℤ◌, int_le, not, ◌&&◌, ◌||◌, Option, length}
 use Rattle.field_text.specs.declared.numeral.Numeral.{Numeral}
 use Rattle.field_text.specs.Grammars.{has_digits, number, scaled, signed, some_if}
 

@@ -1,5 +1,5 @@
 -- How dates and moments are printed.
-use Rattle.std.specs.Prelude.{ℕ, zero, suc, ◌+◌, ◌*◌, ◌/◌, ◌%◌, ℤ, pos, neg_ℤ, ◌-ℤ◌, int_le, ◌≤ℤ◌, unsigned_abs, List, [], ◌∷◌, ◌++◌, codes, Bool, if◌then◌else◌}
+use Rattle.std.specs.Prelude.{ℕ, zero, suc, ◌+◌, ◌/◌, ◌%◌, ℤ, pos, neg_ℤ, ◌-ℤ◌, int_le, ◌≤ℤ◌, unsigned_abs, List, [], ◌∷◌, ◌++◌, codes, Bool, if◌then◌else◌}
 use Rattle.std.specs.Int.{int_div_euclid, int_rem_euclid}
 use Rattle.std.specs.Str.{byte}
 use Rattle.jiff_core.specs.Calendar.{days_from_civil}

@@ -1,5 +1,5 @@
 -- ASCII bytes are UTF-8, so they are a text.
-use Rattle.std.proofs.Common.{MatchResult, Result, Ok, Err, IsOk, IsAscii, IsUtf8, refl}
+use Rattle.std.proofs.Common.{MatchResult, Result, Ok, Err, IsOk, refl}
 use Rattle.std.proofs.lemmas.Str.{IsUtf8-from_ascii}
 use Rattle.field_text.proofs.ascii.ascii_text.Goals as goal
 

@@ -1,4 +1,4 @@
-use Rattle.std.proofs.Common.{◌≡◌, ◌∙◌, ap, sym, arith, to_z, of_z, w16, w64, unsigned_abs}
+use Rattle.std.proofs.Common.{arith}
 use Rattle.std.proofs.lemmas.Int.{ints}
 use Rattle.field_text.proofs.DateParts.{parts_of_passed}
 use Rattle.field_text.proofs.calendar.civil_parts.Goals as goal

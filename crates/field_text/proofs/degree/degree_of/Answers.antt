@@ -1,4 +1,4 @@
-use Rattle.std.proofs.Common.{◌≡◌, ◌∙◌, ap, cond, length, None, pos, sym}
+use Rattle.std.proofs.Common.{◌∙◌, ap, cond, length, None, pos, sym}
 use Rattle.std.proofs.lemmas.Bool.{le-leb}
 use Rattle.field_text.specs.Numerals.{degree_of_numeral}
 use Rattle.field_text.proofs.degree.degree_of.Goals as goal

@@ -1,4 +1,4 @@
-use Rattle.std.proofs.Common.{◌≡◌, ◌∙◌, ◌*◌, ◌-◌, ◌^◌, ap, nat_le, min, length, take}
+use Rattle.std.proofs.Common.{◌∙◌, ◌*◌, ◌-◌, ◌^◌, ap, nat_le, take}
 use Rattle.field_text.specs.Grammars.{number_after, some_if}
 use Rattle.field_text.proofs.DegreeLemmas.{kept_value, none_by_fraction, none_by_whole}
 use Rattle.field_text.proofs.NumberLemmas.{some_if-passed}

@@ -1,4 +1,4 @@
-use Rattle.std.proofs.Common.{◌≡◌, ◌&&◌, ◌+◌, ◌++◌, ◌-ℤ◌, ◌+ℤ◌, ◌∙◌, ap, arith, length, nat_le, pos, sym}
+use Rattle.std.proofs.Common.{◌&&◌, ◌++◌, ◌-ℤ◌, ◌+ℤ◌, ◌∙◌, ap, length, nat_le, pos, sym}
 use Rattle.field_text.specs.Grammars.{number, scaled, signed, some_if}
 use Rattle.field_text.proofs.DegreeLemmas.{digits_of_parts, has_digits_of_parts, size_is}
 use Rattle.field_text.proofs.degree.size_of.Goals as goal

@@ -1,4 +1,4 @@
-use Rattle.std.proofs.Common.{◌<◌, ◌∙◌, arith}
+use Rattle.std.proofs.Common.{◌∙◌, arith}
 use Rattle.field_text.proofs.NumberLemmas.{none_past_front}
 use Rattle.field_text.proofs.digits.number_after.Goals as goal
 

@@ -1,4 +1,4 @@
-use Rattle.std.proofs.Common.{◌≡◌, ◌&&◌, length, false, sym, ◌∙◌, ap, arith}
+use Rattle.std.proofs.Common.{sym, ◌∙◌, arith}
 use Rattle.field_text.proofs.ShapeLemmas.{is_shaped-end, is_shaped-step, not_shaped}
 use Rattle.field_text.proofs.moment.is_shaped.Goals as goal
 

@@ -2,7 +2,7 @@ use Rattle.std.proofs.Common.{◌≡◌, ◌∙◌, ap, arith, pos, to_z, of_z, 
 use Rattle.std.specs.Int.{int_div_euclid, int_rem_euclid}
 use Rattle.std.proofs.lemmas.Int.{to_z-of_z}
 use Rattle.jiff_core.proofs.SignedLemmas.{signed_arith}
-use Rattle.field_text.specs.Texts.{clock_text, day_of_month, last_digits, month_of, year_of}
+use Rattle.field_text.specs.Texts.{clock_text, last_digits}
 use Rattle.field_text.proofs.TextLemmas.{moment_bytes_are}
 use Rattle.field_text.proofs.moment.moment_bytes.Goals as goal
 

@@ -1,4 +1,4 @@
-use Rattle.std.proofs.Common.{◌≡◌, ◌∙◌, ℕ, ℤ, pos, ◌+ℤ◌, ◌*ℤ◌, to_z, of_z, w32, w64, Some, sym, ap, arith}
+use Rattle.std.proofs.Common.{◌∙◌, Some, sym, ap, arith}
 use Rattle.std.proofs.lemmas.Int.{ints}
 use Rattle.field_text.proofs.MomentLemmas.{moment-from_parts, moment-unshaped}
 use Rattle.field_text.proofs.moment.moment_of.Goals as goal

@@ -1,4 +1,4 @@
-use Rattle.std.proofs.Common.{◌≡◌, ◌∙◌, ◌+◌, ap, length, take, drop}
+use Rattle.std.proofs.Common.{◌∙◌, ◌+◌, ap, length, take, drop}
 use Rattle.std.specs.Prelude.{is_some, unwrap_or}
 use Rattle.field_text.specs.Grammars.{is_exponent_mark}
 use Rattle.field_text.proofs.NumeralLemmas.{degree-in_parts, is_some-position, unwrap_or-position}

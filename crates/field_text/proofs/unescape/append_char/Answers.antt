@@ -1,6 +1,5 @@
-use Rattle.std.proofs.Common.{◌≡◌, ◌∙◌, ap, arith, length, set, sym, take}
+use Rattle.std.proofs.Common.{◌≡◌, ◌∙◌, arith}
 use Rattle.std.proofs.lemmas.List.{length-set}
-use Rattle.std.proofs.lemmas.Result.{MatchResult-at_err}
 use Rattle.field_text.proofs.UnescapeLemmas.{no_byte_after, no_char_fits_at, one_more_byte, one_more_no_char}
 use Rattle.field_text.proofs.unescape.append_char.Goals as goal
 

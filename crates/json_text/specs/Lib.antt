@@ -1,0 +1,17 @@
+pub mod Answer
+pub mod Byte
+pub mod Content
+pub mod Grammar
+pub mod Machine
+pub mod Moves
+pub mod Node
+pub mod Placed
+pub mod Progress
+pub mod Reading
+pub mod Recording
+pub mod Refusal
+pub mod Scanning
+pub mod Shapes
+pub mod Syntax
+pub mod Unescaping
+pub mod Walk
