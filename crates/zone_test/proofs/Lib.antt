@@ -1,0 +1,2 @@
+pub mod RingEdges
+pub mod ServedStops
