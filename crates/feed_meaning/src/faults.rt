@@ -19,7 +19,7 @@ pub fn rule(code: FaultCode, is_broken: bool) -> Option<FaultCode>
     if is_broken { Some(code) } else { None }
 }
 
-/// Adds the faults of a row by its rules, in their order.
+/// Adds the faults of a row by its rules, in their order. After want of memory the first of them may be there.
 pub fn add_faults(
     faults: &mut Listed<Fault>,
     file: InputFile,
@@ -51,7 +51,8 @@ pub fn refusal_fault(file: InputFile, refusal: TableRefusal) -> Option<Fault>
     Some(Fault { file, row, code })
 }
 
-/// Adds a fault for each needed column that the table lacks, in their order.
+/// Adds a fault for each needed column that the table lacks, in their order. After want of memory the first of them may
+/// be there.
 pub fn add_missing_columns(
     faults: &mut Listed<Fault>,
     file: InputFile,

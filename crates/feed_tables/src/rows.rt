@@ -7,7 +7,7 @@ ghost use Rattle.feed_tables.specs.Records.{rows_of};
 use crate::table::Table;
 use std::marker::Model;
 
-/// The records of a table after its header, in order.
+/// The records of a table after its header, in order, which contracts see as the list of those that are left.
 #[derive(Drop)]
 pub struct Rows<'a> {
     table: &'a Table,
@@ -54,7 +54,7 @@ impl<'a> Iterator for Rows<'a> {
     }
 }
 
-/// A record of a table after its header.
+/// A record of a table after its header. It lends its fields from the table's pool, and can't outlive the table.
 #[derive(Drop)]
 pub struct RowView<'a> {
     table: &'a Table,
@@ -73,7 +73,8 @@ impl<'a> Model for RowView<'a> {
 }
 
 impl<'a> RowView<'a> {
-    /// The field of a column, empty where the record is too short.
+    /// The field of a column, by the place that `Table::column` gives: empty where the record is too short. It has
+    /// no spaces or tabs at its ends.
     pub fn field(&self, column: u32) -> &'a str
         ensures { result.now ≡ value_at self.now.fields column }
     {
@@ -81,7 +82,7 @@ impl<'a> RowView<'a> {
         table.field_at(self.place, column as usize)
     }
 
-    /// The row number: the header has 1, and each record after it one more than the one before.
+    /// The row number: the header has the number 1, and each record counts one.
     pub fn number(&self) -> u64
         ensures { result ≡ self.now.number }
     {

@@ -20,7 +20,8 @@ use std::alloc::Global;
 use std::collections::BTreeMap;
 use std::marker::Model;
 
-/// The records of a table's bytes, header first. Their fields lie in one pool of text.
+/// A table of a feed (GTFS Schedule reference, file requirements): the records of a file's bytes, header first, which
+/// contracts see as the list of their fields. The text of all fields lies in one pool.
 #[derive(Drop)]
 pub struct Table {
     pool: Pool,
@@ -136,7 +137,10 @@ fn push_row(
 }
 
 impl Table {
-    /// The table of a file's bytes, or the first rule that they break.
+    /// The table of a file's bytes, of which there are fewer than 2^32, or the first rule that they break: `NoHeader`
+    /// where there is no record, and else, record by record from the header on, `TooManyRows`, `NotUtf8`,
+    /// `DuplicateColumn` and `RowTooLong`. It goes over the bytes once. The pool has as many bytes as the file; beside it a
+    /// field takes 4 bytes and a record 8, and at most three times that while the lists of their ends grow.
     pub fn read(alloc: Global, bytes: &[u8]) -> Result<Table, TableRefusal>
         requires { length bytes.now < 2 ^ 32 }
         ensures records { IfOk result (λ table. table ≡ table_records bytes.now) }
@@ -164,7 +168,7 @@ impl Table {
         Ok(Table { pool, ends })
     }
 
-    /// The place of the column with this name.
+    /// The place of the column with this name, from 0, or `None` where the header lacks it.
     pub fn column(&self, name: &str) -> Option<u32>
         requires { name.now ≢ [] }
         ensures { result ≡ position (bytes_eq name.now) (header_of self.now) }
@@ -177,7 +181,7 @@ impl Table {
         None
     }
 
-    /// The records after the header, in order.
+    /// The records after the header, in order, which are no more than the limit.
     pub fn rows(&self) -> Rows<'_>
         ensures rows { result ≡ rows_of self.now }
         ensures few { length result ≤ MAX_ROWS }
