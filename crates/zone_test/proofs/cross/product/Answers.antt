@@ -1,5 +1,5 @@
 -- The product is less than 2^119.
-use Rattle.std.proofs.Common.{◌≡◌, ◌≤◌, ◌^◌, ◌*ℤ◌, FitsSigned, arith, ap₂, mul-le-mul, subst, sym, unsigned_abs, ◌∙◌}
+use Rattle.std.proofs.Common.{◌≤◌, ◌^◌, ◌*ℤ◌, FitsSigned, arith, ap₂, mul-le-mul, subst, sym, unsigned_abs, ◌∙◌}
 use Rattle.std.proofs.lemmas.Int.{fits_signed_from_abs, fits_signed_mul, to_z-of_z, unsigned_abs-mul}
 use mir.Syntax.{w128}
 use mir.Val.{of_z, to_z}

@@ -1,5 +1,5 @@
 -- The edges go from each corner to the next.
-use Rattle.std.proofs.Common.{◌∙◌, arith, rules, sym}
+use Rattle.std.proofs.Common.{◌∙◌, rules, sym}
 use Rattle.flex_model.specs.Zone.{is_on_edge}
 use Rattle.zone_test.proofs.RingEdges.{none_at_all, none_yet, one_found}
 use Rattle.zone_test.proofs.rings.is_on_ring.Goals as goal

@@ -1,6 +1,6 @@
 -- The edges go from each corner to the next.
-use Rattle.std.proofs.Common.{◌≡◌, ◌==◌, ◌%◌, ◌+◌, ◌∙◌, ap, arith, rules, subst, sym}
-use Rattle.flex_model.specs.Zone.{edges, is_crossed, is_odd}
+use Rattle.std.proofs.Common.{◌∙◌, ap, rules, sym}
+use Rattle.flex_model.specs.Zone.{is_crossed, is_odd}
 use Rattle.zone_test.proofs.RingEdges.{all_counted, no_more, one_more}
 use Rattle.zone_test.proofs.rings.is_surrounded.Goals as goal
 use Rattle.zone_test.proofs.rings.is_surrounded.Goals.{then-is_crossed, else-is_crossed}
