@@ -1,5 +1,5 @@
 -- The changes of tables without faults rise and are sound.
-use Rattle.std.proofs.Common.{◌≡◌, ℕ, ◌<◌, Bool, true, false, not, ◌&&◌, ◌||◌, eqb, List, [], ◌∷◌, All, AllPairs, None, map, take, length, get_or, refl, sym, ◌∙◌, ap, arith, lit<, inl, inr}
+use Rattle.std.proofs.Common.{◌≡◌, ℕ, ◌<◌, Bool, true, false, not, ◌&&◌, ◌||◌, eqb, List, [], ◌∷◌, All, AllPairs, None, map, take, length, get_or, refl, sym, ◌∙◌, ap, arith, lit<, ◌⊎◌, inl, inr}
 use Rattle.std.specs.Prelude.{if◌then◌else◌, nat_lt}
 use Rattle.std.specs.List.{filter, list_any}
 use Rattle.std.specs.Str.{bytes_eq}
@@ -147,6 +147,10 @@ module _ (tables : Tables) (features : List Feature) (kept : KeepsFeedRules tabl
   found-in-order : AllPairs (IsOrdered change_before change_irreflexive change_transitive) found
   found-in-order = AllPairs-map (IsOrdered change_before change_irreflexive change_transitive) (change_of tables) (filter (is_change tables) rs) (λ i j d lt low.
       AllPairs-filter InOrder (is_change tables) rs all-in-order i j d lt low (filter_passes (is_change tables) rs i d (omega arith)) (filter_passes (is_change tables) rs j d low))
+
+  -- of two changes one comes before the other
+  pub changes_ordered : AllPairs (λ a b. (change_before a b ≡ true) ⊎ (change_before b a ≡ true)) (map (change_of tables) (filter (is_change tables) (tables Transfers)))
+  changes_ordered = found-in-order
 
   pub changes_rise : AllPairs IsChangeBefore (feed tables features kept).changes
   changes_rise i j d lt low = change_before_is (get_or (rising change_before found) i d) (get_or (rising change_before found) j d) (rising_rises change_before change_irreflexive change_transitive found found-in-order i j d lt low)

@@ -111,7 +111,7 @@ module _ (tables : Tables) (features : List Feature) (kept : KeepsFeedRules tabl
   abbrev service_texts : List (List ℕ)
   service_texts = map (λ r. r "service_id") (tables Calendar ++ tables CalendarDates)
 
-  services_given : All (λ t. t ≢ []) service_texts
+  pub services_given : All (λ t. t ≢ []) service_texts
   services_given = All-map (λ t. t ≢ []) (λ (r : Values). r "service_id") (tables Calendar ++ tables CalendarDates)
       (All-append (λ r. r "service_id" ≢ []) (tables Calendar) (tables CalendarDates)
       (λ i d low. given_is (get_or (tables Calendar) i d "service_id") (filled_is_given (get_or (tables Calendar) i d "service_id") (is_kept code.EmptyField (is_empty (get_or (tables Calendar) i d "service_id")) (kept.calendar.alone.at i d low 0 None (lit< tt)))))
