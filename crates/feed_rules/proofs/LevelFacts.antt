@@ -1,0 +1,171 @@
+-- The faults of the tables as they were read are those of the folder.
+use Rattle.std.proofs.Common.{◌≡◌, ℕ, ◌<◌, Bool, true, false, not, ◌&&◌, List, [], ◌∷◌, ◌++◌, ◌+◌, get_or, take, refl, sym, ◌∙◌, ap, subst, lit<}
+use Rattle.std.specs.Prelude.{if◌then◌else◌}
+use Rattle.std.specs.List.{flat_map, list_all}
+use Rattle.std.proofs.lemmas.List.{flat_map_more, take_more}
+use Rattle.std.proofs.lemmas.List.Folds.{list_all_at}
+use Rattle.flex_model.specs.declared.fault.Fault.{Fault}
+use Rattle.flex_model.specs.declared.fault.InputFile.{InputFile}
+use Rattle.flex_model.specs.declared.fault.InputFile.TheVariants.{Agency, Stops, Routes, Trips, StopTimes, Calendar, CalendarDates, Locations, LocationGroups, LocationGroupStops, BookingRules, Transfers, Frequencies, ZoneText, ZoneTzif, Points, Direct, Walks, Queries}
+use Rattle.flex_model.specs.declared.fault.RawFile.{RawFile}
+use Rattle.flex_model.specs.declared.fault.RawFile.TheVariants as raw_file
+use Rattle.feed_tables.specs.Records.{table_records}
+use Rattle.feed_meaning.specs.FeedFaults.{Geo, feed_contents, feed_level_one}
+use Rattle.feed_meaning.specs.Folder.{Folder, counts_as_present, fetched_faults, file_faults, is_needed}
+use Rattle.feed_meaning.specs.Tables.{table_faults}
+use Rattle.feed_meaning.proofs.Kept.{parts_are_nil}
+use Rattle.feed_rules.specs.Folders.{ReadsFolder, found_of, is_feed_table}
+use Rattle.feed_rules.specs.Found.{IsFound, found_faults, missing_fault, schema_of}
+use Rattle.feed_rules.specs.Levels.{AreJudged, CanJudge, LacksLaterFiles, feed_tables, is_judged, level_one, needs}
+use Rattle.feed_rules.specs.declared.folder.RawFeed.{RawFeed}
+use Rattle.feed_rules.specs.declared.found.Found.{Found}
+use Rattle.feed_rules.specs.declared.found.Found.TheVariants.{Absent, TooLarge, Refused, Read}
+use Rattle.feed_rules.proofs.FoundFacts.{found_faults-exact, is_found-exact}
+
+and_parts : (a b : Bool) → (a && b) ≡ true → (a ≡ true) × (b ≡ true)
+and_parts true b e = (refl, e)
+and_parts false b e = cc
+
+-- the same parts, where they are the same at each item that passes
+flat_map-on : {X A : Type 0} (p : X → Bool) (f g : X → List A) → ((x : X) → p x ≡ true → f x ≡ g x) → (xs : List X) → list_all p xs ≡ true
+    → flat_map f xs ≡ flat_map g xs
+flat_map-on p f g same [] e = refl
+flat_map-on p f g same (x ∷ xs) e =
+    let both = and_parts (p x) (list_all p xs) e in
+    ap (λ ys. ys ++ flat_map f xs) (same x both.0) ∙ ap (λ ys. g x ++ ys) (flat_map-on p f g same xs both.1)
+
+-- an item without parts makes no difference
+flat_map-skip : {X A : Type 0} (f : X → List A) (xs : List X) (y : X) (ys : List X) → f y ≡ [] → flat_map f (xs ++ ys) ≡ flat_map f (xs ++ y ∷ ys)
+flat_map-skip f [] y ys e = ap (λ zs. zs ++ flat_map f ys) (sym e)
+flat_map-skip f (x ∷ xs) y ys e = ap (λ zs. f x ++ zs) (flat_map-skip f xs y ys e)
+
+-- a table with rules, and one that wasn't read, can be judged
+with_rules : (file : InputFile) (found : Found) → is_judged file ≡ true → CanJudge file found
+with_rules file Absent e = tt
+with_rules file TooLarge e = tt
+with_rules file (Refused r) e = tt
+with_rules file (Read t) e = e
+
+absent : (file : InputFile) (found : Found) (raw : RawFile) → IsFound raw found → raw ≡ raw_file.Absent → CanJudge file found
+absent file Absent raw is lacks = tt
+absent file TooLarge raw is lacks = tt
+absent file (Refused r) raw is lacks = tt
+absent file (Read t) raw (bytes, e, accepted, same) lacks = cc
+
+-- other files than the tables have no faults
+pub no_table : (raw : RawFeed) (file : InputFile) → is_feed_table file ≡ false → found_faults file (needs raw file) (found_of raw file) ≡ []
+no_table raw Locations e = refl
+no_table raw ZoneText e = refl
+no_table raw ZoneTzif e = refl
+no_table raw Points e = refl
+no_table raw Direct e = refl
+no_table raw Walks e = refl
+no_table raw Queries e = refl
+no_table raw file e = cc
+
+-- where there are no faults no table has one
+pub no_own : (raw : RawFeed) → level_one raw ≡ [] → (file : InputFile) → is_feed_table file ≡ true → found_faults file (needs raw file) (found_of raw file) ≡ []
+no_own raw none file e =
+    let one = parts_are_nil (λ f. found_faults f (needs raw f) (found_of raw f)) feed_tables none in
+    by one file e
+  where
+    by : ((i : ℕ) (d : InputFile) → i < 12 → found_faults (get_or feed_tables i d) (needs raw (get_or feed_tables i d)) (found_of raw (get_or feed_tables i d)) ≡ [])
+        → (file : InputFile) → is_feed_table file ≡ true → found_faults file (needs raw file) (found_of raw file) ≡ []
+    by one Agency e = one 0 Agency (lit< tt)
+    by one Stops e = one 1 Agency (lit< tt)
+    by one Routes e = one 2 Agency (lit< tt)
+    by one Trips e = one 3 Agency (lit< tt)
+    by one StopTimes e = one 4 Agency (lit< tt)
+    by one Calendar e = one 5 Agency (lit< tt)
+    by one CalendarDates e = one 6 Agency (lit< tt)
+    by one LocationGroups e = one 7 Agency (lit< tt)
+    by one LocationGroupStops e = one 8 Agency (lit< tt)
+    by one BookingRules e = one 9 Agency (lit< tt)
+    by one Transfers e = one 10 Agency (lit< tt)
+    by one Frequencies e = one 11 Agency (lit< tt)
+    by one file e = cc
+
+all_tables : (i : ℕ) (d : InputFile) → i < 12 → is_feed_table (get_or feed_tables i d) ≡ true
+all_tables i d low = by (is_feed_table (get_or feed_tables i d)) refl
+  where
+    by : (b : Bool) → is_feed_table (get_or feed_tables i d) ≡ b → is_feed_table (get_or feed_tables i d) ≡ true
+    by true e = e
+    by false e = let h = list_all_at is_feed_table feed_tables i d low e in cc
+
+-- the faults of one more table
+pub level_more : (raw : RawFeed) (i : ℕ) (d : InputFile) (faults new own : List Fault) (found : Found) (is_needed : Bool) → i < 12 → AreJudged raw
+    → faults ≡ flat_map (λ file. found_faults file (needs raw file) (found_of raw file)) (take i feed_tables)
+    → found ≡ found_of raw (get_or feed_tables i d) → is_needed ≡ needs raw (get_or feed_tables i d)
+    → (CanJudge (get_or feed_tables i d) found → own ≡ found_faults (get_or feed_tables i d) is_needed found) → new ≡ faults ++ own
+    → new ≡ flat_map (λ file. found_faults file (needs raw file) (found_of raw file)) (take (i + 1) feed_tables)
+level_more raw i d faults new own found is_needed low judged seen is needed own-is pushed =
+    let file = get_or feed_tables i d in
+    let f : InputFile → List Fault = λ x. found_faults x (needs raw x) (found_of raw x) in
+    let can = subst (λ x. CanJudge file x) (sym is) (judged file (all_tables i d low)) in
+    let here : own ≡ f file = own-is can ∙ ap (λ b. found_faults file b found) needed ∙ ap (found_faults file (needs raw file)) is in
+    pushed ∙ ap (λ xs. xs ++ own) seen ∙ ap (λ ys. flat_map f (take i feed_tables) ++ ys) here
+    ∙ flat_map_more f [] (take i feed_tables) file ∙ ap (flat_map f) (sym (take_more feed_tables i d low))
+
+module _ (geo : Geo) (raw : RawFeed) (folder : Folder) (reads : ReadsFolder raw folder) (lacks : LacksLaterFiles folder) where
+  -- each table that was read can be judged
+  pub are_judged : AreJudged raw
+  are_judged Agency e = with_rules Agency raw.agency refl
+  are_judged Stops e = with_rules Stops raw.stops refl
+  are_judged Routes e = with_rules Routes raw.routes refl
+  are_judged Trips e = with_rules Trips raw.trips refl
+  are_judged StopTimes e = with_rules StopTimes raw.stop_times refl
+  are_judged Calendar e = absent Calendar raw.calendar (folder Calendar) (reads Calendar refl) lacks.calendar
+  are_judged CalendarDates e = with_rules CalendarDates raw.calendar_dates refl
+  are_judged LocationGroups e = absent LocationGroups raw.location_groups (folder LocationGroups) (reads LocationGroups refl) lacks.location_groups
+  are_judged LocationGroupStops e = absent LocationGroupStops raw.location_group_stops (folder LocationGroupStops) (reads LocationGroupStops refl) lacks.location_group_stops
+  are_judged BookingRules e = absent BookingRules raw.booking_rules (folder BookingRules) (reads BookingRules refl) lacks.booking_rules
+  are_judged Transfers e = absent Transfers raw.transfers (folder Transfers) (reads Transfers refl) lacks.transfers
+  are_judged Frequencies e = absent Frequencies raw.frequencies (folder Frequencies) (reads Frequencies refl) lacks.frequencies
+  are_judged file e = cc
+
+  -- the feed needs the table
+  needs-exact : (file : InputFile) → is_feed_table file ≡ true → needs raw file ≡ is_needed folder file
+  needs-exact Agency e = refl
+  needs-exact Stops e = sym (ap (λ r. not (counts_as_present Locations r)) lacks.locations)
+  needs-exact Routes e = refl
+  needs-exact Trips e = refl
+  needs-exact StopTimes e = refl
+  needs-exact Calendar e = ap not (is_found-exact CalendarDates (folder CalendarDates) raw.calendar_dates (reads CalendarDates refl))
+  needs-exact CalendarDates e = refl
+  needs-exact LocationGroups e = refl
+  needs-exact LocationGroupStops e = refl
+  needs-exact BookingRules e = refl
+  needs-exact Transfers e = refl
+  needs-exact Frequencies e = refl
+  needs-exact file e = cc
+
+  -- the faults of a table's bytes
+  says : (file : InputFile) → is_feed_table file ≡ true → (bytes : List ℕ) → feed_contents geo file bytes ≡ table_faults file (schema_of file) (table_records bytes)
+  says Agency e bytes = refl
+  says Stops e bytes = refl
+  says Routes e bytes = refl
+  says Trips e bytes = refl
+  says StopTimes e bytes = refl
+  says Calendar e bytes = refl
+  says CalendarDates e bytes = refl
+  says LocationGroups e bytes = refl
+  says LocationGroupStops e bytes = refl
+  says BookingRules e bytes = refl
+  says Transfers e bytes = refl
+  says Frequencies e bytes = refl
+  says file e bytes = cc
+
+  own-exact : (file : InputFile) → is_feed_table file ≡ true → found_faults file (needs raw file) (found_of raw file) ≡ file_faults (feed_contents geo) folder file
+  own-exact file e =
+      found_faults-exact file (folder file) (feed_contents geo) (needs raw file) (found_of raw file) (says file e) (reads file e)
+      ∙ ap (λ n. if counts_as_present file (folder file) then fetched_faults (feed_contents geo) file (folder file) else missing_fault file n) (needs-exact file e)
+
+  no_locations : file_faults (feed_contents geo) folder Locations ≡ []
+  no_locations = ap (λ r. if counts_as_present Locations r then fetched_faults (feed_contents geo) Locations r else []) lacks.locations
+
+  -- the faults of the tables by themselves
+  pub level_one-exact : level_one raw ≡ feed_level_one geo folder
+  level_one-exact =
+      flat_map-on is_feed_table (λ file. found_faults file (needs raw file) (found_of raw file)) (file_faults (feed_contents geo) folder) own-exact feed_tables refl
+      ∙ flat_map-skip (file_faults (feed_contents geo) folder) (Agency ∷ Stops ∷ Routes ∷ Trips ∷ StopTimes ∷ Calendar ∷ CalendarDates ∷ []) Locations
+      (LocationGroups ∷ LocationGroupStops ∷ BookingRules ∷ Transfers ∷ Frequencies ∷ []) no_locations

@@ -1,0 +1,11 @@
+pub mod PairFacts
+pub mod FirstZones
+pub mod SequenceFacts
+pub mod NotedSequences
+pub mod OrderFacts
+pub mod StationFacts
+pub mod KnownIds
+pub mod FoundFacts
+pub mod FolderFacts
+pub mod LevelFacts
+pub mod KeptTables

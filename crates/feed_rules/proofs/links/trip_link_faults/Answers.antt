@@ -1,0 +1,20 @@
+use Rattle.std.proofs.Common.{◌≡◌, ◌∙◌, ◌++◌, ap, []}
+use Rattle.std.specs.Option.{option_map_or}
+use Rattle.flex_model.specs.declared.fault.InputFile.TheVariants as Files
+use Rattle.feed_tables.specs.Fields.{value_at}
+use Rattle.feed_tables.specs.Records.{header_of}
+use Rattle.feed_meaning.specs.FeedLinks as FeedLinks
+use Rattle.feed_meaning.specs.Tables.{faults_at, values_of}
+use Rattle.feed_meaning.proofs.LinkFacts.{link_more}
+use Rattle.feed_rules.proofs.links.trip_link_faults.Goals as goal
+
+pub loop-row-preserved : goal.loop-row-preserved
+loop-row-preserved c = λ tables ids.
+    let header = header_of c.args.trips.now in
+    let row = c.in-Some.row in
+    let route : c.value-route.result.now ≡ values_of header row.fields "route_id" = c.value-route.ensures ∙ ap (λ o. option_map_or (value_at row.fields) o []) c.column-route_id.ensures in
+    let service : c.value-service.result.now ≡ values_of header row.fields "service_id" = c.value-service.ensures ∙ ap (λ o. option_map_or (value_at row.fields) o []) c.column-service_id.ensures in
+    link_more Files.Trips (FeedLinks.trip_links tables) header c.loop-row.yielded row c.loop-row.faults c.add_faults.new.faults c.trip_links-rules.result
+    (c.loop-row.invariant tables ids)
+    (c.in_ok-add_faults.ensures ∙ ap (λ n. c.loop-row.faults ++ faults_at Files.Trips n c.trip_links-rules.result) c.number.ensures)
+    (c.trip_links-rules.ensures tables (values_of header row.fields) ids route service)

@@ -1,0 +1,9 @@
+pub mod Pairs
+pub mod StopTimes
+pub mod Sequences
+pub mod Found
+pub mod Orders
+pub mod Links
+pub mod Fetched
+pub mod Folders
+pub mod Levels

@@ -1,0 +1,122 @@
+// The fault list of a feed.
+
+ghost use Rattle.std.specs.Prelude.{◌≡◌, ◌++◌, [], IfOk, OnOk};
+ghost use Rattle.feed_meaning.specs.FeedFaults.{Geo, feed_faults, feed_level_two, tables};
+ghost use Rattle.feed_meaning.specs.Folder.{Folder};
+ghost use Rattle.feed_rules.specs.Folders.{ReadsFolder};
+ghost use Rattle.feed_rules.specs.Levels as Levels;
+ghost use Rattle.feed_rules.specs.Levels.{AreJudged, LacksLaterFiles};
+ghost use Rattle.feed_rules.specs.Links.{AreTablesOf};
+
+use crate::file_faults::table_faults;
+use crate::folder::RawFeed;
+use crate::found::is_found;
+use crate::known_ids::{LinkTables, link_ids};
+use crate::links::{stop_time_link_faults, trip_link_faults};
+use crate::orders::trip_order;
+use flex_model::{Fault, InputFile, Listed, NoMemory};
+use std::alloc::Global;
+
+// The tables of a feed, in the order of its files.
+const FEED_TABLES: [InputFile; 12] = [
+    InputFile::Agency,
+    InputFile::Stops,
+    InputFile::Routes,
+    InputFile::Trips,
+    InputFile::StopTimes,
+    InputFile::Calendar,
+    InputFile::CalendarDates,
+    InputFile::LocationGroups,
+    InputFile::LocationGroupStops,
+    InputFile::BookingRules,
+    InputFile::Transfers,
+    InputFile::Frequencies,
+];
+
+// Whether the feed can't do without the table.
+fn needs(raw: &RawFeed, file: InputFile) -> bool
+    ensures { result ≡ Levels.needs raw.now file }
+{
+    match file {
+        InputFile::Agency
+        | InputFile::Stops
+        | InputFile::Routes
+        | InputFile::Trips
+        | InputFile::StopTimes => true,
+        InputFile::Calendar => !is_found(InputFile::CalendarDates, &raw.calendar_dates),
+        _ => false,
+    }
+}
+
+// Adds faults to others.
+fn add_all(faults: &mut Listed<Fault>, more: &Listed<Fault>) -> Result<(), NoMemory>
+    ensures { OnOk result (faults.new ≡ faults.old ++ more.now) }
+{
+    for fault in more.as_slice() {
+        faults.push(*fault)?;
+    }
+    Ok(())
+}
+
+// The faults of the tables by themselves.
+fn level_one(alloc: Global, raw: &RawFeed) -> Result<Listed<Fault>, NoMemory>
+    ensures { IfOk result (λ faults. AreJudged raw.now → faults ≡ Levels.level_one raw.now) }
+{
+    let mut faults = Listed::new(alloc);
+    for file in FEED_TABLES {
+        let Some(found) = raw.found(file) else {
+            continue;
+        };
+        let own = table_faults(alloc, file, needs(raw, file), found)?;
+        add_all(&mut faults, &own)?;
+    }
+    Ok(faults)
+}
+
+// The tables that records name.
+fn link_tables(raw: &RawFeed) -> LinkTables<'_>
+    ensures { (geo : Geo) (folder : Folder) → ReadsFolder raw.now folder → LacksLaterFiles folder → Levels.level_one raw.now ≡ []
+        → AreTablesOf result (tables geo folder) }
+{
+    LinkTables {
+        routes: raw.table(InputFile::Routes),
+        calendar: raw.table(InputFile::Calendar),
+        dates: raw.table(InputFile::CalendarDates),
+        trips: raw.table(InputFile::Trips),
+        stops: raw.table(InputFile::Stops),
+        groups: raw.table(InputFile::LocationGroups),
+        booking_rules: raw.table(InputFile::BookingRules),
+    }
+}
+
+// The faults between the tables, where there are none of the tables by themselves.
+fn level_two(alloc: Global, raw: &RawFeed) -> Result<Listed<Fault>, NoMemory>
+    ensures { IfOk result (λ faults. (geo : Geo) (folder : Folder) → ReadsFolder raw.now folder → LacksLaterFiles folder → Levels.level_one raw.now ≡ []
+        → faults ≡ feed_level_two geo folder) }
+{
+    let found = link_tables(raw);
+    let Some(trips) = raw.table(InputFile::Trips) else {
+        return Ok(Listed::new(alloc));
+    };
+    let Some(stop_times) = raw.table(InputFile::StopTimes) else {
+        return Ok(Listed::new(alloc));
+    };
+    let ids = link_ids(alloc, &found)?;
+    let order = trip_order(alloc, stop_times)?;
+    let mut faults = trip_link_faults(alloc, trips, &ids)?;
+    let more = stop_time_link_faults(alloc, stop_times, &ids, &order)?;
+    add_all(&mut faults, &more)?;
+    Ok(faults)
+}
+
+/// The fault list of the feed: of the tables by themselves, and where that is empty, of the tables beside each other. It is
+/// the whole list where the files are absent whose records aren't judged yet.
+pub fn faults(alloc: Global, raw: &RawFeed) -> Result<Listed<Fault>, NoMemory>
+    ensures { IfOk result (λ faults. (geo : Geo) (folder : Folder) → ReadsFolder raw.now folder → LacksLaterFiles folder → faults ≡ feed_faults geo folder) }
+{
+    let alone = level_one(alloc, raw)?;
+    if !alone.as_slice().is_empty() {
+        return Ok(alone);
+    }
+    level_two(alloc, raw)
+}

@@ -1,0 +1,80 @@
+// The ids of the tables that records name.
+
+ghost use Rattle.std.specs.Prelude.{◌≡◌, ◌≢◌, [], ℕ, List, IfOk, true};
+ghost use Rattle.std.specs.List.{list_any};
+ghost use Rattle.std.specs.Str.{bytes_eq};
+ghost use Rattle.flex_model.specs.declared.fault.InputFile.TheVariants as Files;
+ghost use Rattle.feed_tables.specs.Refusals.{is_given};
+ghost use Rattle.feed_meaning.specs.FeedLinks.{Tables, is_station};
+ghost use Rattle.feed_rules.specs.Links.{AreTablesOf, StandFor, StandForColumn, records_in};
+
+use crate::links::LinkIds;
+use crate::stations::stations_in;
+use feed_meaning::{Ids, ids_in};
+use feed_tables::Table;
+use flex_model::NoMemory;
+use std::alloc::Global;
+
+/// The tables that records name, each where its file has records.
+#[derive(Clone, Copy)]
+pub(crate) struct LinkTables<'a> {
+    pub(crate) routes: Option<&'a Table>,
+    pub(crate) calendar: Option<&'a Table>,
+    pub(crate) dates: Option<&'a Table>,
+    pub(crate) trips: Option<&'a Table>,
+    pub(crate) stops: Option<&'a Table>,
+    pub(crate) groups: Option<&'a Table>,
+    pub(crate) booking_rules: Option<&'a Table>,
+}
+
+// The ids in a column of a table, none where there is no table.
+fn known_ids_in<'a>(
+    alloc: Global,
+    table: Option<&'a Table>,
+    name: &str,
+) -> Result<Ids<'a>, NoMemory>
+    requires { name.now ≢ [] }
+    ensures { IfOk result (λ ids. StandForColumn ids table.entry name.now) }
+{
+    match table {
+        Some(table) => ids_in(alloc, table, name),
+        None => Ok(Ids::new(alloc)),
+    }
+}
+
+// The ids of the stops where one can't board, none where there is no table.
+fn known_stations<'a>(alloc: Global, stops: Option<&'a Table>) -> Result<Ids<'a>, NoMemory>
+    ensures { IfOk result (λ ids. (tables : Tables) → tables Files.Stops ≡ records_in stops.entry
+        → (text : List ℕ) → is_given text ≡ true → list_any (bytes_eq text) ids ≡ is_station tables text) }
+{
+    match stops {
+        Some(stops) => stations_in(alloc, stops),
+        None => Ok(Ids::new(alloc)),
+    }
+}
+
+/// The ids of the tables that records name, without those of any features.
+pub(crate) fn link_ids<'a>(alloc: Global, found: &LinkTables<'a>) -> Result<LinkIds<'a>, NoMemory>
+    ensures { IfOk result (λ ids. (tables : Tables) → AreTablesOf found.now tables → StandFor ids tables) }
+{
+    let routes = known_ids_in(alloc, found.routes, "route_id")?;
+    let calendar = known_ids_in(alloc, found.calendar, "service_id")?;
+    let dates = known_ids_in(alloc, found.dates, "service_id")?;
+    let trips = known_ids_in(alloc, found.trips, "trip_id")?;
+    let stops = known_ids_in(alloc, found.stops, "stop_id")?;
+    let stations = known_stations(alloc, found.stops)?;
+    let groups = known_ids_in(alloc, found.groups, "location_group_id")?;
+    let zones = Ids::new(alloc);
+    let booking_rules = known_ids_in(alloc, found.booking_rules, "booking_rule_id")?;
+    Ok(LinkIds {
+        routes,
+        calendar,
+        dates,
+        trips,
+        stops,
+        stations,
+        groups,
+        zones,
+        booking_rules,
+    })
+}

@@ -1,0 +1,29 @@
+//! The fault lists of a feed folder.
+#![tactic(auto)]
+
+mod agency;
+mod calendar_dates;
+mod feed_faults;
+mod fields;
+mod file_faults;
+mod folder;
+mod found;
+mod keys;
+mod known_ids;
+mod links;
+mod orders;
+mod routes;
+mod sequences;
+mod stations;
+mod stop_times;
+mod stops;
+mod trips;
+
+pub use agency::agency_faults;
+pub use calendar_dates::calendar_date_faults;
+pub use feed_faults::faults;
+pub use folder::{FeedBytes, RawFeed};
+pub use routes::route_faults;
+pub use stop_times::stop_time_faults;
+pub use stops::stop_faults;
+pub use trips::trip_faults;
