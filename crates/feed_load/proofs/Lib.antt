@@ -1,0 +1,12 @@
+pub mod Grouping
+pub mod Texts
+pub mod Permuted
+pub mod ServiceDates
+pub mod TripRecords
+pub mod PlainRows
+pub mod PlainTrips
+pub mod PlainFeeds
+pub mod PlainFolders
+pub mod AcceptedFolders
+pub mod FetchedFolders
+pub mod Loading

@@ -1,0 +1,56 @@
+// The stops of stops.txt.
+
+ghost use Rattle.std.specs.Prelude.{◌≡◌, ◌||◌, IfOk, map};
+ghost use Rattle.feed_meaning.specs.FeedValue as Value;
+ghost use Rattle.feed_meaning.specs.FeedValue.{coordinate};
+ghost use Rattle.feed_meaning.specs.Rules as Words;
+ghost use Rattle.feed_load.specs.PlainTables.{values_in};
+
+use crate::fields::{latitude, longitude, text_of};
+use feed_meaning::{is_empty, is_text, value};
+use feed_tables::Table;
+use flex_model::{Listed, NoMemory, Position, Stop};
+use std::alloc::Global;
+
+// A stop by the texts of its columns.
+fn stop_of(
+    alloc: Global,
+    id: &str,
+    lon: &str,
+    lat: &str,
+    location_type: &str,
+) -> Result<Stop, NoMemory>
+    ensures { IfOk result (λ stop. stop ≡ record {
+      id = id.now;
+      at = record { lon = coordinate 180 lon.now; lat = coordinate 90 lat.now };
+      boards = Words.is_empty location_type.now || Words.is_text location_type.now "0";
+    }) }
+{
+    Ok(Stop {
+        id: text_of(alloc, id)?,
+        at: Position {
+            lon: longitude(lon),
+            lat: latitude(lat),
+        },
+        boards: is_empty(location_type) || is_text(location_type, "0"),
+    })
+}
+
+/// The stops of stops.txt, in the order of the file.
+pub(crate) fn stops_of(alloc: Global, table: &Table) -> Result<Listed<Stop>, NoMemory>
+    ensures { IfOk result (λ stops. stops ≡ map Value.stop_of (values_in table.now)) }
+{
+    let stop_id = table.column("stop_id");
+    let stop_lon = table.column("stop_lon");
+    let stop_lat = table.column("stop_lat");
+    let location_type = table.column("location_type");
+    let mut stops = Listed::new(alloc);
+    for row in table.rows() {
+        let id = value(&row, stop_id);
+        let lon = value(&row, stop_lon);
+        let lat = value(&row, stop_lat);
+        let kind = value(&row, location_type);
+        stops.push(stop_of(alloc, id, lon, lat, kind)?)?;
+    }
+    Ok(stops)
+}
