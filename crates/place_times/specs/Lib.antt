@@ -1,0 +1,3 @@
+pub mod UtcFolder
+pub mod Fetches
+pub mod Loads
