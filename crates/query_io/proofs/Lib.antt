@@ -1,0 +1,8 @@
+pub mod PrintedAnswers
+mod PrintedLines
+mod PrintedRides
+pub mod NotedIds
+pub mod NamedPlaces
+pub mod QueryMoments
+pub mod QueryRecords
+pub mod QuerySamples

@@ -1,0 +1,55 @@
+-- The text of an answer: lines of words, this project's own format. Ids stand in their escaped form, dates as YYYYMMDD,
+-- moments as YYYY-MM-DDTHH:MM:SSZ, numbers in decimal digits.
+use Rattle.std.specs.Prelude.{ℕ, List, [], ◌∷◌, ◌++◌, length, slice_get, codes, decimal}
+use Rattle.std.specs.List.{flat_map, join_with_byte}
+use Rattle.std.specs.Option.{option_map_or}
+use Rattle.flex_model.specs.declared.answer.Answer.{Answer}
+use Rattle.flex_model.specs.declared.feed.Feed.{Feed}
+use Rattle.flex_model.specs.declared.moment.Deadline.{Deadline}
+use Rattle.flex_model.specs.declared.moment.Deadline.TheVariants.{At, Never}
+use Rattle.flex_model.specs.declared.place.Place.{Place}
+use Rattle.flex_model.specs.declared.place.Place.TheVariants.{Stop, Point}
+use Rattle.flex_model.specs.declared.query.Query.{Query}
+use Rattle.flex_model.specs.declared.ride.Ride.{Ride}
+use Rattle.flex_model.specs.declared.times.Times.{Times}
+use Rattle.flex_model.specs.declared.trip.Trip.{Trip}
+use Rattle.field_text.specs.Grammars.{escape}
+use Rattle.field_text.specs.Texts.{date_text, moment_text}
+
+-- words parted by one space, and one line feed
+abbrev pub line : List (List ℕ) → List ℕ
+line words = join_with_byte 32 words ++ 10 ∷ []
+
+abbrev pub deadline_text : Deadline → List ℕ
+deadline_text (At moment) = moment_text moment
+deadline_text Never = codes "never"
+
+-- the escaped id of a stop or a point
+abbrev pub place_text : Feed → Times → Place → List ℕ
+place_text feed times (Stop s) = escape (option_map_or (λ stop. stop.id) (slice_get feed.stops s) [])
+place_text feed times (Point p) = escape (option_map_or (λ point. point.id) (slice_get times.points p) [])
+
+-- the stop_sequence of a trip's record
+abbrev pub sequence_text : Trip → ℕ → List ℕ
+sequence_text trip r = decimal (option_map_or (λ row. row.sequence) (slice_get trip.rows r) 0)
+
+-- ride TRIP DATE FROM TO PLACE PLACE DEPARTS ARRIVES: the service day, and the stop_sequence of both records
+abbrev pub words_on_trip : Feed → Times → Ride → Trip → List (List ℕ)
+words_on_trip feed times ride trip =
+    codes "ride" ∷ escape trip.id ∷ date_text ride.day ∷ sequence_text trip ride.from_row ∷ sequence_text trip ride.to_row
+    ∷ place_text feed times ride.board ∷ place_text feed times ride.alight ∷ moment_text ride.departs
+    ∷ moment_text ride.arrives ∷ []
+
+abbrev pub ride_line : Feed → Times → Ride → List ℕ
+ride_line feed times ride = option_map_or (λ trip. line (words_on_trip feed times ride trip)) (slice_get feed.trips ride.trip) []
+
+-- journey DEADLINE ARRIVAL TRANSFERS, and a line for each ride
+abbrev pub journey_lines : Feed → Times → Answer → List ℕ
+journey_lines feed times answer =
+    line (codes "journey" ∷ deadline_text answer.triple.deadline ∷ moment_text answer.triple.arrival ∷ decimal answer.triple.transfers ∷ [])
+    ++ flat_map (ride_line feed times) answer.rides
+
+-- query ID COUNT, and the lines of each journey
+unfoldable pub answer_text : Feed → Times → Query → List Answer → List ℕ
+answer_text feed times query answers =
+    line (codes "query" ∷ escape query.id ∷ decimal (length answers) ∷ []) ++ flat_map (journey_lines feed times) answers

@@ -1,0 +1,7 @@
+pub mod AnswerText
+pub mod Printable
+pub mod PrintableAnswers
+pub mod Word
+pub mod Reads
+pub mod QueryFields
+pub mod QueryPlaces

@@ -1,0 +1,147 @@
+ghost use Rattle.std.specs.Prelude.{◌≡◌, ◌≢◌, [], ◌∷◌, IfOk, Some, length, slice_get};
+ghost use Rattle.flex_model.specs.declared.trip.Trip.{Trip};
+
+use super::*;
+use flex_model::{
+    Answer, Deadline, Feed, Listed, NoMemory, Place, Position, Query, Ride, Row, Spot, Stop, Text,
+    Times, Timing, Trip, Triple, Way,
+};
+use std::alloc::Global;
+use std::test::Fail;
+
+fn new_text(alloc: Global, piece: &str) -> Result<Text, NoMemory>
+    ensures { IfOk result (λ text. text ≡ piece.now) }
+{
+    let mut text = Text::new(alloc);
+    text.append(piece)?;
+    Ok(text)
+}
+
+fn new_stop(alloc: Global, id: &str) -> Result<Stop, NoMemory>
+    ensures { IfOk result (λ stop. stop.id ≡ id.now) }
+{
+    Ok(Stop {
+        id: new_text(alloc, id)?,
+        at: Position { lon: 0, lat: 0 },
+        boards: true,
+    })
+}
+
+fn new_row(sequence: u32, stop: u32, time: u32) -> Row {
+    Row {
+        sequence,
+        spot: Spot::Stop(stop),
+        timing: Timing::Times {
+            arrives: time,
+            departs: time,
+        },
+        pickup: Way::Free,
+        drop_off: Way::Free,
+    }
+}
+
+fn new_trip(alloc: Global) -> Result<Trip, NoMemory>
+    ensures id { IfOk result (λ trip. trip.id ≢ []) }
+    ensures rows { IfOk result (λ trip. length trip.rows ≡ 2) }
+{
+    let mut rows = Listed::new(alloc);
+    rows.push(new_row(1, 0, 28_800))?;
+    rows.push(new_row(2, 1, 30_000))?;
+    Ok(Trip {
+        id: new_text(alloc, "T")?,
+        service: 0,
+        frequent: false,
+        rows,
+    })
+}
+
+fn new_feed(alloc: Global) -> Result<Feed, NoMemory>
+    ensures from { IfOk result (λ feed. (stop : Stop) × (slice_get feed.stops 0 ≡ Some stop) × (stop.id ≢ [])) }
+    ensures to { IfOk result (λ feed. (stop : Stop) × (slice_get feed.stops 1 ≡ Some stop) × (stop.id ≢ [])) }
+    ensures trip { IfOk result (λ feed. (trip : Trip) × (slice_get feed.trips 0 ≡ Some trip) × (trip.id ≢ []) × (length trip.rows ≡ 2)) }
+{
+    let mut stops = Listed::new(alloc);
+    stops.push(new_stop(alloc, "M")?)?;
+    stops.push(new_stop(alloc, "N")?)?;
+    let mut trips = Listed::new(alloc);
+    trips.push(new_trip(alloc)?)?;
+    Ok(Feed {
+        stops,
+        zones: Listed::new(alloc),
+        groups: Listed::new(alloc),
+        services: Listed::new(alloc),
+        rules: Listed::new(alloc),
+        trips,
+        changes: Listed::new(alloc),
+    })
+}
+
+fn new_times(alloc: Global) -> Times {
+    Times {
+        points: Listed::new(alloc),
+        direct: Listed::new(alloc),
+        walks: Listed::new(alloc),
+    }
+}
+
+fn new_query(alloc: Global, id: &str) -> Result<Query, NoMemory>
+    ensures { IfOk result (λ query. query.id ≡ id.now) }
+{
+    Ok(Query {
+        id: new_text(alloc, id)?,
+        origin: Place::Stop(0),
+        destination: Place::Stop(1),
+        depart: 1_749_022_200,
+        now: 1_748_952_000,
+        transfers: 0,
+        horizon: 60,
+    })
+}
+
+#[test]
+fn writes_a_journey_of_one_ride(rt: HostRuntime) -> Result<(), Fail> {
+    let mut rides = Listed::new(rt.alloc());
+    rides.push(Ride {
+        trip: 0,
+        day: 20_243,
+        from_row: 0,
+        to_row: 1,
+        board: Place::Stop(0),
+        alight: Place::Stop(1),
+        departs: 1_749_024_000,
+        arrives: 1_749_025_200,
+    })?;
+    let mut answers = Listed::new(rt.alloc());
+    answers.push(Answer {
+        triple: Triple {
+            deadline: Deadline::Never,
+            arrival: 1_749_025_200,
+            transfers: 0,
+        },
+        rides,
+    })?;
+    let feed = new_feed(rt.alloc())?;
+    let times = new_times(rt.alloc());
+    let query = new_query(rt.alloc(), "q1")?;
+    let mut text = Text::new(rt.alloc());
+    write_answers(&feed, &times, &query, &answers, &mut text)?;
+    assert_eq!(rt;
+        text.as_str(),
+        "query q1 1\njourney never 2025-06-04T08:20:00Z 0\nride T 20250604 1 2 M N 2025-06-04T08:00:00Z 2025-06-04T08:20:00Z\n"
+    );
+    Ok(())
+}
+
+#[test]
+fn writes_no_journeys_after_what_stands(rt: HostRuntime) -> Result<(), Fail> {
+    let feed = new_feed(rt.alloc())?;
+    let times = new_times(rt.alloc());
+    let answers = Listed::new(rt.alloc());
+    let mut text = Text::new(rt.alloc());
+    let first = new_query(rt.alloc(), "q1")?;
+    write_answers(&feed, &times, &first, &answers, &mut text)?;
+    let second = new_query(rt.alloc(), "Høj 5%")?;
+    write_answers(&feed, &times, &second, &answers, &mut text)?;
+    assert_eq!(rt; text.as_str(), "query q1 0\nquery H%C3%B8j%205%25 0\n");
+    Ok(())
+}
