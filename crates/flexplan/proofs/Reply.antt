@@ -1,0 +1,133 @@
+-- What was printed where a reply ended.
+use Rattle.std.proofs.Common.{◌≡◌, ℕ, List, [], ◌∷◌, map, Option, None, Some, IfSome, Result, Ok, Err, refl, sym, ap, subst, inl, inr, ◌∙◌}
+use Rattle.flex_io.specs.Outside.{FileMap, Gains}
+use Rattle.flex_io.specs.declared.error.PutError.{PutError}
+use Rattle.flex_io.specs.declared.error.PutError.TheVariants.{Failed, NoMemory}
+use Rattle.flex_model.proofs.ExactAnswers.{exact_answer}
+use Rattle.flex_model.specs.declared.fault.Fault.{Fault}
+use Rattle.flex_model.specs.declared.feed.Feed.{Feed}
+use Rattle.flex_model.specs.declared.query.Query.{Query}
+use Rattle.flex_model.specs.declared.times.Times.{Times}
+use Rattle.query_io.specs.AnswerText.{answer_text}
+use Rattle.service_days.specs.Bases.{table_of, utc_bases}
+use Rattle.flexplan.specs.Answers.{Piece, fault_lines, answer, IsAnswerText, RightText}
+use Rattle.flexplan.specs.Faults.{text_of}
+use Rattle.flexplan.specs.Input.{feed, times}
+use Rattle.flexplan.specs.Opened.{IsOpened, IsRefused, IsSoundOpening}
+use Rattle.flexplan.specs.Reply.{IsPlanReply, IsReply, IsRight, IsFinished, MayHavePrinted, PrintsRight, status_of, end_of}
+use Rattle.flexplan.specs.Texts.{Prints, PrintsAll}
+use Rattle.flexplan.specs.Words.{InputPaths, Request, plan}
+use Rattle.flexplan.specs.declared.input.Input as declared
+use Rattle.flexplan.specs.declared.input.Opened.TheVariants.{Accepted, Refused}
+use Rattle.flexplan.specs.declared.input.Opened.TheVariants as opened
+use Rattle.flexplan.specs.declared.status.Status.{Status}
+use Rattle.flexplan.specs.declared.status.Status.TheVariants as status
+use Rattle.flexplan.specs.declared.status.Stop.{Stop}
+use Rattle.flexplan.proofs.Gains.{gains_as, gains_nothing}
+use Rattle.flexplan.proofs.Texts.{completed, print_one}
+
+-- every query has an exact answer, and so a right text
+some_answer : (feed : Feed) (times : Times) (query : Query) → (text : List ℕ) × IsAnswerText feed times query text
+some_answer feed times query =
+    let exact = exact_answer feed times (table_of utc_bases query.depart) query in
+    (answer_text feed times query exact.0, (exact.0, exact.1, refl))
+
+-- each piece has a right text
+right_text : (piece : Piece) → (text : List ℕ) × RightText piece text
+right_text (fault_lines faults) = (text_of faults, refl)
+right_text (answer feed times query) = some_answer feed times query
+
+right_printed : (request : Request) (files : FileMap) (s : Status) (bytes : List ℕ) → IsFinished s → IsRight request files s bytes → MayHavePrinted request files s bytes
+right_printed request files status.Done bytes _ right = right
+right_printed request files status.FeedFaulty bytes _ right = right
+right_printed request files status.TimesFaulty bytes _ right = right
+right_printed request files status.QueriesFaulty bytes _ right = right
+right_printed request files status.CertRefused bytes _ right = right
+right_printed request files status.NotBuilt bytes _ right = right
+right_printed request files status.Usage bytes none right = absurd none
+right_printed request files status.ReadFault bytes none right = absurd none
+right_printed request files status.WriteFault bytes none right = absurd none
+right_printed request files status.NoMemory bytes none right = absurd none
+
+if_told : (told : Option FileMap) (P Q : FileMap → Type 0) → IfSome told P → ((files : FileMap) → P files → Q files) → IfSome told Q
+if_told None P Q p leads = tt
+if_told (Some files) P Q p leads = leads files p
+
+accepted_printed : (request : Request) (files : FileMap) (pieces : List Piece) (printed : Result (Unit {0}) PutError) (bytes : List ℕ) → IsReply request files status.Done pieces
+    → PrintsAll RightText pieces printed bytes → MayHavePrinted request files (status_of (end_of status.Done printed)) bytes
+accepted_printed request files pieces (Ok _) bytes reply prints = (pieces, reply, prints)
+accepted_printed request files pieces (Err Failed) bytes reply prints =
+    let whole = completed RightText right_text pieces bytes prints in
+    (status.Done, whole.0, (pieces, reply, whole.1), whole.2)
+accepted_printed request files pieces (Err NoMemory) bytes reply prints = inr (pieces, prints.0, reply, prints.1)
+
+refused_printed : (request : Request) (files : FileMap) (s : Status) (faults : List Fault) (printed : Result (Unit {0}) PutError) (bytes : List ℕ) → IsFinished s → IsReply request files s (fault_lines faults ∷ [])
+    → Prints RightText (fault_lines faults) printed bytes → MayHavePrinted request files (status_of (end_of s printed)) bytes
+refused_printed request files s faults (Ok u) bytes final reply prints =
+    right_printed request files s bytes final (fault_lines faults ∷ [], reply, print_one RightText (fault_lines faults) (Ok u) bytes prints)
+refused_printed request files s faults (Err Failed) bytes final reply prints =
+    let whole = completed RightText right_text (fault_lines faults ∷ []) bytes (inl prints) in
+    (s, whole.0, (fault_lines faults ∷ [], reply, whole.1), whole.2)
+refused_printed request files s faults (Err NoMemory) bytes final reply prints = inl prints
+
+-- the faults of a refused input were printed, or their print failed
+pub refused : (request : Request) (told : Option FileMap) (s : Status) (faults : List Fault) (before after : Option (List ℕ)) (printed : Result (Unit {0}) PutError) (end : Result Status Stop)
+    → IsFinished s → IfSome told (λ files. IsReply request files s (fault_lines faults ∷ [])) → end ≡ end_of s printed
+    → Gains before after (Prints RightText (fault_lines faults) printed) → PrintsRight request told (status_of end) before after
+refused request told s faults before after printed end final known end_is gains =
+    if_told told _ _ known (λ files reply. gains_as before after _ _ gains (λ bytes prints.
+    subst (λ e. MayHavePrinted request files (status_of e) bytes) (sym end_is) (refused_printed request files s faults printed bytes final reply prints)))
+
+-- the pieces of an accepted input were printed, or a print of one failed
+pub accepted : (request : Request) (told : Option FileMap) (pieces : List Piece) (before after : Option (List ℕ)) (printed : Result (Unit {0}) PutError) (end : Result Status Stop)
+    → IfSome told (λ files. IsReply request files status.Done pieces) → end ≡ end_of status.Done printed
+    → Gains before after (PrintsAll RightText pieces printed) → PrintsRight request told (status_of end) before after
+accepted request told pieces before after printed end known end_is gains =
+    if_told told _ _ known (λ files reply. gains_as before after _ _ gains (λ bytes prints.
+    subst (λ e. MayHavePrinted request files (status_of e) bytes) (sym end_is) (accepted_printed request files pieces printed bytes reply prints)))
+
+-- only the query file is refused
+refused_as : (files : FileMap) (paths : InputPaths) (s : Status) (faults : List Fault) → IsRefused files paths s faults
+    → IsPlanReply files paths s (fault_lines faults ∷ [])
+refused_as files paths status.QueriesFaulty faults is =
+    (is.0, ((λ none. is.1 (is.2 ∙ none)), ap (λ fs. fault_lines fs ∷ []) is.2))
+refused_as files paths status.Done faults none = absurd none
+refused_as files paths status.Usage faults none = absurd none
+refused_as files paths status.FeedFaulty faults none = absurd none
+refused_as files paths status.TimesFaulty faults none = absurd none
+refused_as files paths status.CertRefused faults none = absurd none
+refused_as files paths status.ReadFault faults none = absurd none
+refused_as files paths status.WriteFault faults none = absurd none
+refused_as files paths status.NoMemory faults none = absurd none
+refused_as files paths status.NotBuilt faults none = absurd none
+
+pub plan_refused : (told : Option FileMap) (paths : InputPaths) (s : Status) (faults : List Fault) → IfSome told (λ files. IsOpened files paths (Refused s faults)) → IfSome told (λ files. IsReply (plan paths) files s (fault_lines faults ∷ []))
+plan_refused told paths s faults is = if_told told _ _ is (λ files refused. refused_as files paths s faults refused)
+
+pub plan_accepted : (told : Option FileMap) (paths : InputPaths) (input : declared.Input) → IfSome told (λ files. IsOpened files paths (Accepted input))
+    → IfSome told (λ files. IsReply (plan paths) files status.Done (map (answer input.feed input.times) input.queries))
+plan_accepted told paths input is =
+    if_told told _ _ is (λ files held. (
+      held.built,
+      ap (λ f. map (answer f input.times) input.queries) held.feed
+          ∙ ap (λ t. map (answer (feed files paths) t) input.queries) held.times
+          ∙ ap (map (answer (feed files paths) (times files paths))) held.queries,
+    ))
+
+-- nothing was printed of input that isn't planned for
+pub plan_not_built : (told : Option FileMap) (paths : InputPaths) (before : Option (List ℕ)) → IfSome told (λ files. IsOpened files paths opened.NotBuilt)
+    → PrintsRight (plan paths) told status.NotBuilt before before
+plan_not_built told paths before is =
+    if_told told _ _ is (λ files unbuilt. gains_nothing before _ ([], (unbuilt, refl), refl))
+
+pub refusal_finishes : (s : Status) (faults : List Fault) → IsSoundOpening (Refused s faults) → IsFinished s
+refusal_finishes status.QueriesFaulty faults _ = tt
+refusal_finishes status.FeedFaulty faults none = absurd none
+refusal_finishes status.TimesFaulty faults none = absurd none
+refusal_finishes status.CertRefused faults none = absurd none
+refusal_finishes status.Done faults none = absurd none
+refusal_finishes status.Usage faults none = absurd none
+refusal_finishes status.ReadFault faults none = absurd none
+refusal_finishes status.WriteFault faults none = absurd none
+refusal_finishes status.NoMemory faults none = absurd none
+refusal_finishes status.NotBuilt faults none = absurd none

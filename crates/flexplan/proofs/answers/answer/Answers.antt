@@ -1,0 +1,6 @@
+use Rattle.query_io.proofs.PrintedAnswers.{exact_printable}
+use Rattle.flexplan.proofs.answers.answer.Goals as goal
+
+pub write_answers-requires : goal.write_answers-requires
+write_answers-requires c =
+    exact_printable c.args.input.now.feed c.args.input.now.times c.in_ok-days.days c.args.query.now c.in_ok-answers.answers c.requires.input.feed c.requires.input.times c.in_ok-days.ensures.sound c.requires.query c.in_ok-answers.ensures

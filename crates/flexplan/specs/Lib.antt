@@ -1,0 +1,12 @@
+pub mod Answers
+pub mod Boarding
+pub mod Candidate
+pub mod Earliest
+pub mod ErrorLine
+pub mod Faults
+pub mod Input
+pub mod Opened
+pub mod Reply
+pub mod Stops
+pub mod Texts
+pub mod Words

@@ -1,0 +1,84 @@
+-- What a run may answer and print.
+use Rattle.std.specs.Prelude.{◌≡◌, ◌≢◌, ◌⊎◌, ℕ, List, [], ◌∷◌, map, take, Option, IfSome, Result, Ok, Err}
+use Rattle.flex_io.specs.Outside.{FileMap, Gains, IsBeginning}
+use Rattle.flex_io.specs.declared.error.PutError.{PutError}
+use Rattle.flex_model.specs.declared.fault.Fault.{Fault}
+use Rattle.flexplan.specs.Words.{InputPaths, Request, plan}
+use Rattle.flexplan.specs.Input.{IsBuilt, IsNotBuilt, IsScheduled, faults_of_queries, feed, queries, times}
+use Rattle.flexplan.specs.Answers.{Piece, fault_lines, answer, RightText}
+use Rattle.flexplan.specs.Texts.{Texts}
+use Rattle.flexplan.specs.Stops.{stop_of_put}
+use Rattle.flexplan.specs.declared.status.Status.{Status}
+use Rattle.flexplan.specs.declared.status.Status.TheVariants.{Done, Usage, FeedFaulty, TimesFaulty, QueriesFaulty, CertRefused, ReadFault, WriteFault, NoMemory, NotBuilt}
+use Rattle.flexplan.specs.declared.status.Stop.{Stop}
+use Rattle.flexplan.specs.declared.status.Stop.TheVariants as stop
+
+-- an exact answer to each query of the input
+abbrev pub answers_of : FileMap → InputPaths → List Piece
+answers_of files paths = map (answer (feed files paths) (times files paths)) (queries files paths)
+
+-- a faulty input's one piece
+abbrev pub AreFaultLines : List Fault → List Piece → Type 0
+AreFaultLines faults pieces = (faults ≢ []) × (pieces ≡ fault_lines faults ∷ [])
+
+-- the status and the pieces that are right for `plan`
+abbrev pub IsPlanReply : FileMap → InputPaths → Status → List Piece → Type 0
+IsPlanReply files paths Done pieces = IsBuilt files paths × (pieces ≡ answers_of files paths)
+IsPlanReply files paths QueriesFaulty pieces = IsScheduled files paths × AreFaultLines (faults_of_queries files paths) pieces
+IsPlanReply files paths NotBuilt pieces = IsNotBuilt files paths × (pieces ≡ [])
+IsPlanReply files paths _ pieces = ⊥
+
+-- the status and the pieces that are right for a request over told files
+abbrev pub IsReply : Request → FileMap → Status → List Piece → Type 0
+IsReply (plan paths) files status pieces = IsPlanReply files paths status pieces
+
+-- a right text for each of the right pieces
+abbrev pub IsRight : Request → FileMap → Status → List ℕ → Type 0
+IsRight request files status text = (pieces : List Piece) × IsReply request files status pieces × Texts RightText pieces text
+
+-- the beginning of a text that is right with some status
+abbrev pub BeginsRight : Request → FileMap → List ℕ → Type 0
+BeginsRight request files bytes = (status : Status) × (text : List ℕ) × IsRight request files status text × IsBeginning text bytes
+
+-- right texts for some of the first pieces of an accepted input
+abbrev pub IsRightSoFar : Request → FileMap → List ℕ → Type 0
+IsRightSoFar request files bytes = (pieces : List Piece) × (count : ℕ) × IsReply request files Done pieces × Texts RightText (take count pieces) bytes
+
+-- what may have been printed when a run ends with this status
+abbrev pub MayHavePrinted : Request → FileMap → Status → List ℕ → Type 0
+MayHavePrinted request files WriteFault bytes = BeginsRight request files bytes
+MayHavePrinted request files NoMemory bytes = (bytes ≡ []) ⊎ IsRightSoFar request files bytes
+MayHavePrinted request files ReadFault bytes = bytes ≡ []
+MayHavePrinted request files Usage bytes = ⊥
+MayHavePrinted request files Done bytes = IsRight request files Done bytes
+MayHavePrinted request files FeedFaulty bytes = IsRight request files FeedFaulty bytes
+MayHavePrinted request files TimesFaulty bytes = IsRight request files TimesFaulty bytes
+MayHavePrinted request files QueriesFaulty bytes = IsRight request files QueriesFaulty bytes
+MayHavePrinted request files CertRefused bytes = IsRight request files CertRefused bytes
+MayHavePrinted request files NotBuilt bytes = IsRight request files NotBuilt bytes
+
+-- where files are told, what a sink gained is what may have been printed for them
+abbrev pub PrintsRight : Request → Option FileMap → Status → Option (List ℕ) → Option (List ℕ) → Type 0
+PrintsRight request told status before after = IfSome told (λ files. Gains before after (MayHavePrinted request files status))
+
+-- an answer that nothing hindered
+abbrev pub IsFinished : Status → Type 0
+IsFinished Done = Unit {0}
+IsFinished FeedFaulty = Unit {0}
+IsFinished TimesFaulty = Unit {0}
+IsFinished QueriesFaulty = Unit {0}
+IsFinished CertRefused = Unit {0}
+IsFinished NotBuilt = Unit {0}
+IsFinished _ = ⊥
+
+-- the status by which a command ended
+abbrev pub status_of : Result Status Stop → Status
+status_of (Ok status) = status
+status_of (Err stop.ReadFault) = ReadFault
+status_of (Err stop.WriteFault) = WriteFault
+status_of (Err stop.NoMemory) = NoMemory
+
+-- how a command ends whose pieces were printed, or whose print failed
+abbrev pub end_of : Status → Result (Unit {0}) PutError → Result Status Stop
+end_of status (Ok _) = Ok status
+end_of status (Err e) = Err (stop_of_put e)

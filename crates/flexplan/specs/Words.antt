@@ -1,0 +1,46 @@
+-- The words that are accepted, and what each asks for.
+use Rattle.std.specs.Prelude.{ℕ, Bool, false, not, ◌&&◌, ◌==◌, List, [], ◌∷◌, Option, None, Some, if◌then◌else◌, codes, map}
+use Rattle.std.specs.Option.{option_map}
+use Rattle.std.specs.Str.{bytes_eq}
+use denote.Ref.{Bor}
+use Rattle.flexplan.specs.declared.words.Command.{Command}
+use Rattle.flexplan.specs.declared.words.Command.TheVariants.{Plan}
+use Rattle.flexplan.specs.declared.words.Paths as declared
+
+-- where the input lies
+pub record InputPaths : Type 0 where
+  pub feed : List ℕ
+  pub times : List ℕ
+  pub queries : List ℕ
+
+-- what is asked for
+pub data Request : Type 0 where
+  plan : InputPaths → Request
+
+-- the bytes of each word
+abbrev pub texts : List (Bor (List ℕ)) → List (List ℕ)
+texts words = map (λ word. word.now) words
+
+-- a word that isn't empty and doesn't begin with a hyphen
+abbrev pub is_plain : List ℕ → Bool
+is_plain [] = false
+is_plain (first ∷ _) = not (first == 45)
+
+-- the words are this command and three plain paths
+abbrev pub three_paths : List ℕ → List (List ℕ) → Option InputPaths
+three_paths name (command ∷ feed ∷ times ∷ queries ∷ []) =
+    if bytes_eq command name && is_plain feed && is_plain times && is_plain queries then
+    Some (record { feed = feed; times = times; queries = queries })
+    else None
+three_paths name _ = None
+
+-- what the words ask for, or none where they are of no accepted form
+abbrev pub request_of : List (List ℕ) → Option Request
+request_of words = option_map plan (three_paths (codes "plan") words)
+
+abbrev pub paths : declared.Paths → InputPaths
+paths p = record { feed = p.feed.now; times = p.times.now; queries = p.queries.now }
+
+-- what a command asks for
+abbrev pub request : Command → Request
+request (Plan p) = plan (paths p)

@@ -1,0 +1,70 @@
+// What is printed, one put for each piece.
+ghost use Rattle.std.specs.Prelude.{◌≡◌, ◌≤◌, IfOk, IsErrOf};
+ghost use Rattle.flex_io.specs.Outside.{Gains, HasFailed};
+ghost use Rattle.flex_model.specs.SoundQuery.{IsSoundQuery};
+ghost use Rattle.flexplan.specs.Answers.{IsAnswerText, RightText, fault_lines};
+ghost use Rattle.flexplan.specs.Opened.{IsSoundInput};
+ghost use Rattle.flexplan.specs.Texts.{Prints, PrintsAll};
+
+use crate::faults::write_faults;
+use crate::input::Input;
+use crate::search::direct_answers;
+use flex_io::{PutError, Sink};
+use flex_model::{Fault, NoMemory, Query, Text};
+use query_io::write_answers;
+use service_days::day_table;
+use std::alloc::Global;
+
+/// Prints the lines of faults.
+pub fn print_faults<O: Sink>(alloc: Global, faults: &[Fault], out: &mut O) -> Result<(), PutError>
+    ensures printed { Gains (O.contents out.old) (O.contents out.new) (Prints RightText (fault_lines faults.now) result) }
+    ensures counted { O.faults out.old ≤ O.faults out.new }
+    ensures write_fault { IsErrOf result PutError.Failed → HasFailed (O.faults out.old) (O.faults out.new) }
+{
+    let text = write_faults(alloc, faults)?;
+    out.put(text.as_str().as_bytes())
+}
+
+// The text of an exact answer to a query of the input.
+fn answer(alloc: Global, input: &Input, query: &Query) -> Result<Text, NoMemory>
+    requires input { IsSoundInput input.now }
+    requires query { IsSoundQuery input.now.feed input.now.times query.now }
+    requires transfers { query.now.transfers ≡ 0 }
+    ensures { IfOk result (IsAnswerText input.now.feed input.now.times query.entry.now) }
+{
+    let days = day_table(alloc, &input.zone, query.depart)?;
+    let answers = direct_answers(alloc, &input.feed, &input.times, &days, query)?;
+    let mut text = Text::new(alloc);
+    write_answers(&input.feed, &input.times, query, &answers, &mut text)?;
+    Ok(text)
+}
+
+fn print_answer<O: Sink>(
+    alloc: Global,
+    input: &Input,
+    query: &Query,
+    out: &mut O,
+) -> Result<(), PutError>
+    requires input { IsSoundInput input.now }
+    requires query { IsSoundQuery input.now.feed input.now.times query.now }
+    requires transfers { query.now.transfers ≡ 0 }
+    ensures printed { Gains (O.contents out.old) (O.contents out.new) (Prints (IsAnswerText input.now.feed input.now.times) query.entry.now result) }
+    ensures counted { O.faults out.old ≤ O.faults out.new }
+    ensures write_fault { IsErrOf result PutError.Failed → HasFailed (O.faults out.old) (O.faults out.new) }
+{
+    let text = answer(alloc, input, query)?;
+    out.put(text.as_str().as_bytes())
+}
+
+/// Prints an exact answer to each query of the input, in order.
+pub fn print_answers<O: Sink>(alloc: Global, input: &Input, out: &mut O) -> Result<(), PutError>
+    requires { IsSoundInput input.now }
+    ensures printed { Gains (O.contents out.old) (O.contents out.new) (PrintsAll (IsAnswerText input.now.feed input.now.times) input.now.queries result) }
+    ensures counted { O.faults out.old ≤ O.faults out.new }
+    ensures write_fault { IsErrOf result PutError.Failed → HasFailed (O.faults out.old) (O.faults out.new) }
+{
+    for query in input.queries.as_slice() {
+        print_answer(alloc, input, query, out)?;
+    }
+    Ok(())
+}

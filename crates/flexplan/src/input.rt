@@ -1,0 +1,147 @@
+// The input of `plan`: its files, fetched in order and read.
+ghost use Rattle.std.specs.Prelude.{◌≡◌, ◌≤◌, ◌↔◌, [], All, IfOk, IfSome, IsErrOf, IsTrue};
+ghost use Rattle.flex_io.specs.Outside.{HasFailed};
+ghost use Rattle.flex_model.specs.SoundFeed.{IsSoundFeed};
+ghost use Rattle.flex_model.specs.SoundTimes.{AreSoundTimes};
+ghost use Rattle.flex_model.specs.PlainFeed.{IsPlainFeed};
+ghost use Rattle.service_days.specs.Bases.{utc_bases};
+ghost use Rattle.flexplan.specs.Opened.{HoldsFeed, HoldsTimes, IsOpened, IsSoundOpening};
+ghost use Rattle.flexplan.specs.Words.{InputPaths, paths};
+
+use crate::status::Status;
+use crate::words::Paths;
+use feed_load::{Loaded, load};
+use feed_meaning::{byte_limit, fetch_file};
+use flex_io::{Files, LoadError};
+use flex_model::{Fault, Feed, InputFile, Listed, Query, Times};
+use place_times::{LoadedTimes, fetch_times, load_times};
+use query_io::{ReadQueries, read_queries};
+use service_days::ZoneValue;
+use std::alloc::Global;
+
+/// The feed, the times and the queries of an accepted input.
+#[derive(Drop)]
+pub struct Input {
+    pub feed: Feed,
+    pub times: Times,
+    pub zone: ZoneValue,
+    pub queries: Listed<Query>,
+}
+
+/// What the files of `plan` hold.
+#[derive(Drop)]
+pub enum Opened {
+    /// Accepted input of the form that is planned for.
+    Accepted(Input),
+    /// The faults of the first part of the input that has some, with its status.
+    Refused(Status, Listed<Fault>),
+    /// Input of a form that isn't planned for yet.
+    NotBuilt,
+}
+
+// Whether no query allows a transfer.
+fn are_direct(queries: &[Query]) -> bool
+    ensures { IsTrue result ↔ All (λ query. query.transfers ≡ 0) queries.now }
+{
+    queries.iter().all(|query| query.transfers == 0)
+}
+
+// Reads the queries of input whose feed and times are read.
+fn open_queries<F: Files>(
+    alloc: Global,
+    files: &mut F,
+    path: &str,
+    feed: Feed,
+    times: Times,
+    zone: ZoneValue,
+) -> Result<Opened, LoadError>
+    requires feed { IsSoundFeed feed }
+    requires plain { IsPlainFeed feed }
+    requires times { AreSoundTimes feed times }
+    requires walks { times.walks ≡ [] }
+    requires zone { zone ≡ utc_bases }
+    ensures opened { IfSome (F.told files.old) (λ told. (paths : InputPaths) → paths.queries ≡ path.now → HoldsTimes told paths feed times → IfOk result (IsOpened told paths)) }
+    ensures sound { IfOk result IsSoundOpening }
+    ensures told { F.told files.new ≡ F.told files.old }
+    ensures counted { F.faults files.old ≤ F.faults files.new }
+    ensures steady { F.is_steady files.old → F.is_steady files.new × (F.faults files.new ≡ F.faults files.old) }
+    ensures read_fault { IsErrOf result LoadError.ReadFault → HasFailed (F.faults files.old) (F.faults files.new) }
+{
+    let raw = fetch_file(alloc, files, path, byte_limit(InputFile::Queries))?;
+    match read_queries(alloc, &raw, &feed, &times)? {
+        ReadQueries::Faulty(faults) => Ok(Opened::Refused(Status::QueriesFaulty, faults)),
+        ReadQueries::Clean(queries) => {
+            if !are_direct(queries.as_slice()) {
+                return Ok(Opened::NotBuilt);
+            }
+            Ok(Opened::Accepted(Input {
+                feed,
+                times,
+                zone,
+                queries,
+            }))
+        }
+    }
+}
+
+// Reads the times folder and the queries of input whose feed is read.
+fn open_times<F: Files>(
+    alloc: Global,
+    files: &mut F,
+    input: &Paths<'_>,
+    feed: Feed,
+) -> Result<Opened, LoadError>
+    requires sound { IsSoundFeed feed }
+    requires plain { IsPlainFeed feed }
+    ensures opened { IfSome (F.told files.old) (λ told. HoldsFeed told (paths input.now) feed → IfOk result (IsOpened told (paths input.now))) }
+    ensures sound { IfOk result IsSoundOpening }
+    ensures told { F.told files.new ≡ F.told files.old }
+    ensures counted { F.faults files.old ≤ F.faults files.new }
+    ensures steady { F.is_steady files.old → F.is_steady files.new × (F.faults files.new ≡ F.faults files.old) }
+    ensures read_fault { IsErrOf result LoadError.ReadFault → HasFailed (F.faults files.old) (F.faults files.new) }
+{
+    match load_times(alloc, files, input.times, &feed)? {
+        LoadedTimes::Clean(times, zone) => {
+            open_queries(alloc, files, input.queries, feed, times, zone)
+        }
+        LoadedTimes::NotUtc => {
+            fetch_file(alloc, files, input.queries, byte_limit(InputFile::Queries))?;
+            Ok(Opened::NotBuilt)
+        }
+    }
+}
+
+// Fetches the files of the times folder and the query file of input whose feed isn't planned for: a failed fetch comes
+// before that answer.
+fn fetch_rest<F: Files>(alloc: Global, files: &mut F, input: &Paths<'_>) -> Result<(), LoadError>
+    ensures told { F.told files.new ≡ F.told files.old }
+    ensures counted { F.faults files.old ≤ F.faults files.new }
+    ensures steady { F.is_steady files.old → F.is_steady files.new × (F.faults files.new ≡ F.faults files.old) }
+    ensures read_fault { IsErrOf result LoadError.ReadFault → HasFailed (F.faults files.old) (F.faults files.new) }
+{
+    fetch_times(alloc, files, input.times)?;
+    fetch_file(alloc, files, input.queries, byte_limit(InputFile::Queries))?;
+    Ok(())
+}
+
+/// Opens the input of `plan`: fetches the files in order, and stops at the first part of the input that has faults.
+pub fn open_input<F: Files>(
+    alloc: Global,
+    files: &mut F,
+    input: &Paths<'_>,
+) -> Result<Opened, LoadError>
+    ensures opened { IfSome (F.told files.old) (λ told. IfOk result (IsOpened told (paths input.now))) }
+    ensures sound { IfOk result IsSoundOpening }
+    ensures told { F.told files.new ≡ F.told files.old }
+    ensures counted { F.faults files.old ≤ F.faults files.new }
+    ensures steady { F.is_steady files.old → F.is_steady files.new × (F.faults files.new ≡ F.faults files.old) }
+    ensures read_fault { IsErrOf result LoadError.ReadFault → HasFailed (F.faults files.old) (F.faults files.new) }
+{
+    match load(alloc, files, input.feed)? {
+        Loaded::Clean(feed) => open_times(alloc, files, input, feed),
+        Loaded::NotPlain => {
+            fetch_rest(alloc, files, input)?;
+            Ok(Opened::NotBuilt)
+        }
+    }
+}

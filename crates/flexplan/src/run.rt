@@ -1,0 +1,157 @@
+// The top call and its stages.
+ghost use Rattle.std.specs.Prelude.{◌≡◌, ◌≢◌, ◌↔◌, ◌⊎◌, Option, None, Some, IfSome, IsSome, IsErrOf};
+ghost use Rattle.flex_io.specs.Outside.{Gains, HasFailed};
+ghost use Rattle.flexplan.specs.Words.{plan, paths, request, request_of, texts};
+ghost use Rattle.flexplan.specs.Reply.{PrintsRight, IsFinished, status_of, end_of};
+ghost use Rattle.flexplan.specs.ErrorLine.{error_line, IsLineOrNothing};
+
+use crate::answers::{print_answers, print_faults};
+use crate::input::{Opened, open_input};
+use crate::status::{Status, Stop};
+use crate::words::{Command, Paths, command_of};
+use flex_io::{Files, PutError, Sink};
+use std::alloc::Global;
+
+// How a command ends after its prints.
+fn ended(status: Status, printed: Result<(), PutError>) -> Result<Status, Stop>
+    requires { IsFinished status }
+    ensures end { result ≡ end_of status printed }
+    ensures read { status_of result ≢ Status.ReadFault }
+    ensures used { status_of result ≢ Status.Usage }
+    ensures write { status_of result ≡ Status.WriteFault → IsErrOf printed PutError.Failed }
+{
+    printed?;
+    Ok(status)
+}
+
+// Answers the queries of the input.
+fn perform_plan<F: Files, O: Sink>(
+    alloc: Global,
+    input: &Paths<'_>,
+    files: &mut F,
+    out: &mut O,
+) -> Result<Status, Stop>
+    ensures printed { PrintsRight (plan (paths input.now)) (F.told files.old) (status_of result) (O.contents out.old) (O.contents out.new) }
+    ensures silent { status_of result ≡ Status.ReadFault → O.contents out.new ≡ O.contents out.old }
+    ensures told { F.told files.new ≡ F.told files.old }
+    ensures read_fault { status_of result ≡ Status.ReadFault → HasFailed (F.faults files.old) (F.faults files.new) }
+    ensures write_fault { status_of result ≡ Status.WriteFault → HasFailed (O.faults out.old) (O.faults out.new) }
+    ensures used { status_of result ≢ Status.Usage }
+{
+    match open_input(alloc, files, input)? {
+        Opened::Accepted(held) => ended(Status::Done, print_answers(alloc, &held, out)),
+        Opened::Refused(status, faults) => {
+            ended(status, print_faults(alloc, faults.as_slice(), out))
+        }
+        Opened::NotBuilt => Ok(Status::NotBuilt),
+    }
+}
+
+// Does what a command asks for.
+fn perform<F: Files, O: Sink>(
+    alloc: Global,
+    command: &Command<'_>,
+    files: &mut F,
+    out: &mut O,
+) -> Result<Status, Stop>
+    ensures printed { PrintsRight (request command.now) (F.told files.old) (status_of result) (O.contents out.old) (O.contents out.new) }
+    ensures silent { status_of result ≡ Status.ReadFault → O.contents out.new ≡ O.contents out.old }
+    ensures told { F.told files.new ≡ F.told files.old }
+    ensures read_fault { status_of result ≡ Status.ReadFault → HasFailed (F.faults files.old) (F.faults files.new) }
+    ensures write_fault { status_of result ≡ Status.WriteFault → HasFailed (O.faults out.old) (O.faults out.new) }
+    ensures used { status_of result ≢ Status.Usage }
+{
+    match command {
+        Command::Plan(input) => perform_plan(alloc, input, files, out),
+    }
+}
+
+// The status by which a command ended.
+fn status_of(end: Result<Status, Stop>) -> Status
+    ensures { result ≡ status_of end }
+{
+    match end {
+        Ok(status) => status,
+        Err(Stop::ReadFault) => Status::ReadFault,
+        Err(Stop::WriteFault) => Status::WriteFault,
+        Err(Stop::NoMemory) => Status::NoMemory,
+    }
+}
+
+// All but the line to the error stream.
+fn answer<F: Files, O: Sink>(alloc: Global, words: &[&str], files: &mut F, out: &mut O) -> Status
+    ensures usage { result ≡ Status.Usage ↔ (request_of (texts words.now) ≡ None) }
+    ensures printed { IfSome (request_of (texts words.now))
+        (λ request. PrintsRight request (F.told files.old) result (O.contents out.old) (O.contents out.new)) }
+    ensures silent_usage { result ≡ Status.Usage → O.contents out.new ≡ O.contents out.old }
+    ensures silent_read_fault { result ≡ Status.ReadFault → O.contents out.new ≡ O.contents out.old }
+    ensures told { F.told files.new ≡ F.told files.old }
+    ensures read_fault { result ≡ Status.ReadFault → HasFailed (F.faults files.old) (F.faults files.new) }
+    ensures write_fault { result ≡ Status.WriteFault → HasFailed (O.faults out.old) (O.faults out.new) }
+{
+    let Some(command) = command_of(words) else {
+        return Status::Usage;
+    };
+    status_of(perform(alloc, &command, files, out))
+}
+
+// The line of a status, or nothing.
+fn error_line(status: Status) -> &'static str
+    ensures { result.now ≡ error_line status }
+{
+    match status {
+        Status::Usage => "flexplan: usage\n",
+        Status::ReadFault => "flexplan: read fault\n",
+        Status::NoMemory => "flexplan: no memory\n",
+        _ => "",
+    }
+}
+
+// Puts the line of a status. What becomes of that put changes nothing.
+fn report<E: Sink>(status: Status, err: &mut E)
+    ensures { Gains (E.contents err.old) (E.contents err.new) (IsLineOrNothing (E.faults err.old) (E.faults err.new) (error_line status)) }
+{
+    let line = error_line(status);
+    if line.is_empty() {
+        return;
+    }
+    let _ = err.put(line.as_bytes());
+}
+
+/// Does what the words ask for. The answer's number is the program's exit status.
+pub fn run<F: Files, O: Sink, E: Sink>(
+    alloc: Global,
+    words: &[&str],
+    files: &mut F,
+    out: &mut O,
+    err: &mut E,
+) -> Status
+    // Exactly the words of no accepted form are wrong.
+    ensures usage { result ≡ Status.Usage ↔ (request_of (texts words.now) ≡ None) }
+
+    // Where files are told, the status and what `out` gained are right for the words and the files.
+    ensures printed { IfSome (request_of (texts words.now))
+        (λ request. PrintsRight request (F.told files.old) result (O.contents out.old) (O.contents out.new)) }
+
+    // Told or not, these two print nothing.
+    ensures silent_usage { result ≡ Status.Usage → O.contents out.new ≡ O.contents out.old }
+    ensures silent_read_fault { result ≡ Status.ReadFault → O.contents out.new ≡ O.contents out.old }
+
+    // A fault is answered only where one was counted.
+    ensures read_fault { result ≡ Status.ReadFault → HasFailed (F.faults files.old) (F.faults files.new) }
+    ensures write_fault { result ≡ Status.WriteFault → HasFailed (O.faults out.old) (O.faults out.new) }
+
+    // So accepted words over an outside without faults are answered in full, unless memory runs out.
+    ensures complete { IsSome (request_of (texts words.now)) → ¬ HasFailed (F.faults files.old) (F.faults files.new)
+        → ¬ HasFailed (O.faults out.old) (O.faults out.new) → IsFinished result ⊎ (result ≡ Status.NoMemory) }
+
+    ensures told { F.told files.new ≡ F.told files.old }
+
+    // The error stream gains the line of the status and nothing else.
+    ensures line { Gains (E.contents err.old) (E.contents err.new)
+        (IsLineOrNothing (E.faults err.old) (E.faults err.new) (error_line result)) }
+{
+    let status = answer(alloc, words, files, out);
+    report(status, err);
+    status
+}

@@ -1,0 +1,243 @@
+use crate::run::run;
+use crate::status::Status;
+use flex_io::{MemFiles, MemSink};
+use std::alloc::Global;
+use std::test::Fail;
+
+const PLAN: [&str; 4] = ["plan", "a", "t", "q"];
+
+// A plain feed of one trip, in UTC, and one query.
+const FILES: [(&str, &str); 8] = [
+    (
+        "a/agency.txt",
+        "agency_name,agency_url,agency_timezone\nDale Bus,http://localhost/,UTC\n",
+    ),
+    ("a/stops.txt", "stop_id,stop_lat,stop_lon\nM,50,5\nN,50,6\n"),
+    ("a/routes.txt", "route_id\nR\n"),
+    ("a/trips.txt", "route_id,service_id,trip_id\nR,S,T\n"),
+    (
+        "a/stop_times.txt",
+        "trip_id,stop_sequence,stop_id,arrival_time,departure_time,pickup_type,drop_off_type\n\
+         T,1,M,08:00:00,08:00:00,,\nT,2,N,08:20:00,08:20:00,,\n",
+    ),
+    (
+        "a/calendar_dates.txt",
+        "service_id,date,exception_type\nS,20250604,1\n",
+    ),
+    ("t/zone.txt", "UTC0"),
+    (
+        "q",
+        "query_id,origin,destination,depart,now,transfers,horizon\n\
+         q1,M,N,2025-06-04T07:30:00Z,2025-06-03T12:00:00Z,0,60\n",
+    ),
+];
+
+const ANSWER: &str = "query q1 1\njourney never 2025-06-04T08:20:00Z 0\n\
+                      ride T 20250604 1 2 M N 2025-06-04T08:00:00Z 2025-06-04T08:20:00Z\n";
+
+#[derive(Drop)]
+struct Ended {
+    status: Status,
+    out: MemSink,
+    err: MemSink,
+}
+
+fn ran(alloc: Global, words: &[&str], files: &mut MemFiles, mut out: MemSink) -> Ended {
+    let mut err = MemSink::new(alloc);
+    let status = run(alloc, words, files, &mut out, &mut err);
+    Ended { status, out, err }
+}
+
+// The files of the plain feed, with others in place of some or beside them.
+fn files_with(alloc: Global, others: &[(&str, &str)]) -> Result<MemFiles, Fail> {
+    let mut files = MemFiles::new(alloc);
+    for (path, text) in FILES.as_slice() {
+        files.add(path, text.as_bytes())?;
+    }
+    for (path, text) in others {
+        files.add(path, text.as_bytes())?;
+    }
+    Ok(files)
+}
+
+fn planned(alloc: Global, others: &[(&str, &str)]) -> Result<Ended, Fail> {
+    let mut files = files_with(alloc, others)?;
+    Ok(ran(alloc, &PLAN, &mut files, MemSink::new(alloc)))
+}
+
+const QUERY_HEADER: &str = "query_id,origin,destination,depart,now,transfers,horizon\n";
+
+const ROW_HEADER: &str =
+    "trip_id,stop_sequence,stop_id,arrival_time,departure_time,pickup_type,drop_off_type\n";
+
+// Text under a header.
+fn under(alloc: Global, header: &str, rows: &str) -> Result<String, Fail> {
+    Ok(format!(in alloc; "{header}{rows}")?)
+}
+
+#[test]
+fn each_query_is_answered(rt: HostRuntime) -> Result<(), Fail> {
+    let alloc = rt.alloc();
+    for (rows, text) in [
+        (
+            "q1,M,N,2025-06-04T07:30:00Z,2025-06-03T12:00:00Z,0,60\n",
+            ANSWER,
+        ),
+        (
+            "q1,M,N,2025-06-04T07:30:00Z,2025-06-03T12:00:00Z,0,50\n",
+            ANSWER,
+        ),
+        (
+            "q1,M,N,2025-06-04T07:30:00Z,2025-06-03T12:00:00Z,0,49\n",
+            "query q1 0\n",
+        ),
+        (
+            "q1,N,M,2025-06-04T07:30:00Z,2025-06-03T12:00:00Z,0,60\n",
+            "query q1 0\n",
+        ),
+        ("", ""),
+        (
+            "q2,N,M,2025-06-04T07:30:00Z,2025-06-03T12:00:00Z,0,60\n\
+             H\u{f8}j 5%,M,N,2025-06-04T08:00:01Z,2025-06-03T12:00:00Z,0,60\n",
+            "query q2 0\nquery H%C3%B8j%205%25 0\n",
+        ),
+    ] {
+        let queries = under(alloc, QUERY_HEADER, rows)?;
+        let ended = planned(alloc, &[("q", queries.as_str())])?;
+        assert_eq!(rt; ended.status, Status::Done);
+        assert_eq!(rt; ended.out.bytes(), text.as_bytes());
+        assert!(rt; ended.err.bytes().is_empty());
+    }
+    Ok(())
+}
+
+#[test]
+fn trips_of_other_days_count(rt: HostRuntime) -> Result<(), Fail> {
+    let alloc = rt.alloc();
+    for (rows, text) in [
+        // A trip of the day before, after midnight.
+        (
+            "T,1,M,25:10:00,25:10:00,,\nT,2,N,25:30:00,25:30:00,,\n",
+            "query q1 1\njourney never 2025-06-05T01:30:00Z 0\n\
+             ride T 20250604 1 2 M N 2025-06-05T01:10:00Z 2025-06-05T01:30:00Z\n",
+        ),
+        // The latest time that a record can have, which is six days later.
+        (
+            "T,1,M,08:00:00,08:00:00,,\nT,2,N,167:59:59,167:59:59,,\n",
+            "query q1 0\n",
+        ),
+    ] {
+        let records = under(alloc, ROW_HEADER, rows)?;
+        let query = under(
+            alloc,
+            QUERY_HEADER,
+            "q1,M,N,2025-06-05T00:30:00Z,2025-06-03T12:00:00Z,0,60\n",
+        )?;
+        let ended = planned(
+            alloc,
+            &[
+                ("a/stop_times.txt", records.as_str()),
+                ("q", query.as_str()),
+            ],
+        )?;
+        assert_eq!(rt; ended.status, Status::Done);
+        assert_eq!(rt; ended.out.bytes(), text.as_bytes());
+    }
+    Ok(())
+}
+
+#[test]
+fn other_input_is_not_planned_for(rt: HostRuntime) -> Result<(), Fail> {
+    let alloc = rt.alloc();
+    for (path, text) in [
+        ("a/calendar.txt", ""),
+        ("a/locations.geojson", ""),
+        ("a/location_groups.txt", ""),
+        ("a/location_group_stops.txt", ""),
+        ("a/booking_rules.txt", ""),
+        ("a/transfers.txt", ""),
+        ("a/frequencies.txt", ""),
+        ("a/stops.txt", "stop_id,stop_lat,stop_lon\nM,50,5\nM,50,6\n"),
+        ("a/trips.txt", "route_id,service_id,trip_id\nX,S,T\n"),
+        (
+            "a/stop_times.txt",
+            "trip_id,stop_sequence,stop_id,arrival_time,departure_time\nT,1,M,08:00:00,08:00:00\nT,2,N,08:20:00,\n",
+        ),
+        (
+            "a/stop_times.txt",
+            "trip_id,stop_sequence,stop_id,arrival_time,departure_time,pickup_type\nT,1,M,08:00:00,08:00:00,2\nT,2,N,08:20:00,08:20:00,\n",
+        ),
+        ("t/zone.txt", "UTC1"),
+        ("t/points.txt", ""),
+        ("t/direct.txt", ""),
+        ("t/walks.txt", ""),
+        (
+            "q",
+            "query_id,origin,destination,depart,now,transfers,horizon\n\
+             q1,M,N,2025-06-04T07:30:00Z,2025-06-03T12:00:00Z,1,60\n",
+        ),
+    ] {
+        let ended = planned(alloc, &[(path, text)])?;
+        assert_eq!(rt; ended.status, Status::NotBuilt);
+        assert!(rt; ended.out.bytes().is_empty());
+        assert!(rt; ended.err.bytes().is_empty());
+    }
+    Ok(())
+}
+
+#[test]
+fn faulty_queries_are_told(rt: HostRuntime) -> Result<(), Fail> {
+    let alloc = rt.alloc();
+    let queries = under(
+        alloc,
+        QUERY_HEADER,
+        "q1,M,X,2025-06-04T07:30:00Z,2025-06-03T12:00:00Z,8,0\n",
+    )?;
+    let ended = planned(alloc, &[("q", queries.as_str())])?;
+    assert_eq!(rt; ended.status, Status::QueriesFaulty);
+    let text =
+        "fault queries 2 UNKNOWN_ID\nfault queries 2 BAD_NUMBER\nfault queries 2 BAD_NUMBER\n";
+    assert_eq!(rt; ended.out.bytes(), text.as_bytes());
+    Ok(())
+}
+
+#[test]
+fn failures_of_the_outside_are_told(rt: HostRuntime) -> Result<(), Fail> {
+    let alloc = rt.alloc();
+    let mut files = files_with(alloc, &[])?;
+    files.fail_at(3)?;
+    let ended = ran(alloc, &PLAN, &mut files, MemSink::new(alloc));
+    assert_eq!(rt; ended.status, Status::ReadFault);
+    assert!(rt; ended.out.bytes().is_empty());
+    assert_eq!(rt; ended.err.bytes(), b"flexplan: read fault\n".as_slice());
+    // The last fetch, of the query file, fails where the feed isn't planned for: a read fault comes first.
+    let mut files = files_with(alloc, &[("a/locations.geojson", "")])?;
+    files.fail_at(18)?;
+    let ended = ran(alloc, &PLAN, &mut files, MemSink::new(alloc));
+    assert_eq!(rt; ended.status, Status::ReadFault);
+    let mut out = MemSink::new(alloc);
+    out.fail_at(1, 5)?;
+    let ended = ran(alloc, &PLAN, &mut files_with(alloc, &[])?, out);
+    assert_eq!(rt; ended.status, Status::WriteFault);
+    assert_eq!(rt; ended.out.bytes(), b"query".as_slice());
+    assert!(rt; ended.err.bytes().is_empty());
+    Ok(())
+}
+
+#[test]
+fn other_words_are_wrong(rt: HostRuntime) -> Result<(), Fail> {
+    let alloc = rt.alloc();
+    let mut files = files_with(alloc, &[])?;
+    for words in [
+        ["plan", "a", "t"].as_slice(),
+        &["plan", "a", "t", "-q"],
+        &["plan", "a", "", "q"],
+        &[],
+    ] {
+        let ended = ran(alloc, words, &mut files, MemSink::new(alloc));
+        assert_eq!(rt; ended.status, Status::Usage);
+        assert!(rt; ended.out.bytes().is_empty());
+        assert_eq!(rt; ended.err.bytes(), b"flexplan: usage\n".as_slice());
+    }
+    Ok(())
+}

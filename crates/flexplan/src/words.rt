@@ -1,0 +1,55 @@
+// The words of the command line, read by hand: no memory is needed to refuse them.
+ghost use Rattle.std.specs.Prelude.{◌≡◌};
+ghost use Rattle.std.specs.Option.{option_map};
+ghost use Rattle.flexplan.specs.Words.{paths, request, request_of, texts, is_plain, three_paths};
+
+/// Where the input lies.
+#[derive(Clone, Copy)]
+pub struct Paths<'a> {
+    pub feed: &'a str,
+    pub times: &'a str,
+    pub queries: &'a str,
+}
+
+/// What the words ask for.
+#[derive(Clone, Copy)]
+pub enum Command<'a> {
+    Plan(Paths<'a>),
+}
+
+// A word that isn't empty and doesn't begin with a hyphen.
+fn is_plain(word: &str) -> bool
+    ensures { result ≡ is_plain word.now }
+{
+    match word.as_bytes() {
+        [] => false,
+        [first, ..] => *first != b'-',
+    }
+}
+
+// The paths of a command with three.
+fn three_paths<'a>(name: &str, words: &[&'a str]) -> Option<Paths<'a>>
+    ensures { option_map paths result ≡ three_paths name.now (texts words.now) }
+{
+    match words {
+        [command, feed, times, queries]
+            if *command == name && is_plain(feed) && is_plain(times) && is_plain(queries) => {
+            Some(Paths {
+                feed,
+                times,
+                queries,
+            })
+        }
+        _ => None,
+    }
+}
+
+/// The command of the words, or none where they are of no accepted form.
+pub fn command_of<'a>(words: &[&'a str]) -> Option<Command<'a>>
+    ensures { option_map request result ≡ request_of (texts words.now) }
+{
+    if let Some(paths) = three_paths("plan", words) {
+        return Some(Command::Plan(paths));
+    }
+    None
+}
