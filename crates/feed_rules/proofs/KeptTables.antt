@@ -1,11 +1,10 @@
 -- Where the tables have no faults by themselves, those that were read have the records of the folder.
-use Rattle.std.proofs.Common.{◌≡◌, ℕ, ◌+◌, Bool, true, false, ◌&&◌, List, [], ◌∷◌, ◌++◌, Option, Some, None, length, map, refl, sym, ◌∙◌, ap, arith}
+use Rattle.std.proofs.Common.{◌≡◌, ℕ, ◌+◌, Bool, true, false, ◌&&◌, List, [], ◌∷◌, Option, Some, None, length, map, refl, sym, ◌∙◌, ap, arith}
 use Rattle.std.specs.Prelude.{◌==◌, if◌then◌else◌}
 use Rattle.std.specs.Borrow.{Bor}
 use Rattle.std.specs.List.{flat_map}
 use Rattle.std.specs.Option.{option_map}
 use Rattle.std.proofs.lemmas.Bool.{eqb-true}
-use Rattle.std.proofs.lemmas.List.{append-nil}
 use Rattle.feed_tables.specs.Records.{numbered_from, table_records}
 use Rattle.feed_tables.specs.Refusals.{first_refusal, first_refusal_from, refusal_of}
 use Rattle.feed_tables.specs.declared.refusal.TableRefusal.{TableRefusal}
@@ -15,21 +14,21 @@ use Rattle.flex_model.specs.declared.fault.InputFile.{InputFile}
 use Rattle.flex_model.specs.declared.fault.InputFile.TheVariants.{Agency, Stops, Routes, Trips, StopTimes, Calendar, CalendarDates, Locations, LocationGroups, LocationGroupStops, BookingRules, Transfers, Frequencies}
 use Rattle.flex_model.specs.declared.fault.RawFile.{RawFile}
 use Rattle.flex_model.specs.declared.fault.RawFile.TheVariants as raw_file
-use Rattle.feed_meaning.specs.FeedFaults.{Geo, feature_entry, feed_entries, feed_level_two, features_in, first_list, link_faults, links_of, tables}
+use Rattle.feed_meaning.specs.FeedFaults.{Geo, feature_entry, feed_level_two, features_in, first_list, link_faults, links_of, tables}
 use Rattle.feed_meaning.specs.Folder.{Folder, bytes_of, entries, has_no_record, may_be_blank}
 use Rattle.feed_meaning.specs.Rules.{Values}
-use Rattle.feed_meaning.specs.Tables.{Entry, entries_of, faults_at, refusal_fault}
+use Rattle.feed_meaning.specs.Tables.{entries_of, faults_at, refusal_fault}
 use Rattle.feed_meaning.proofs.Blanks.{no_header_is_blank}
 use Rattle.feed_meaning.proofs.Kept.{or-not, refusal-not}
 use Rattle.feed_meaning.proofs.OnLiterals.{feed_on_literals}
 use Rattle.feed_rules.specs.Folders.{ReadsFolder, accepted_records, found_of, is_feed_table, raw_table, table_of}
 use Rattle.feed_rules.specs.Found.{IsFound, found_faults, missing_fault}
-use Rattle.feed_rules.specs.Levels.{LacksLaterFiles, level_one, needs}
+use Rattle.feed_rules.specs.Levels.{LacksLocations, feed_tables, level_one, needs}
 use Rattle.feed_rules.specs.Links.{records_in}
 use Rattle.feed_rules.specs.declared.folder.RawFeed.{RawFeed}
 use Rattle.feed_rules.specs.declared.found.Found.{Found}
 use Rattle.feed_rules.specs.declared.found.Found.TheVariants.{Absent, TooLarge, Refused, Read}
-use Rattle.feed_rules.proofs.LevelFacts.{no_own}
+use Rattle.feed_rules.proofs.LevelFacts.{flat_map-skip, no_own}
 
 -- no table is refused for want of memory
 refusals-not_memory : (columns place : ℕ) (records : List (List (List ℕ))) → first_refusal_from columns place records ≡ Some refusal.NoMemory → ⊥
@@ -142,10 +141,6 @@ pub empty : (xs alone : List Fault) (b : Bool) → b ≡ (length xs == 0) → xs
 empty [] alone b e same on = sym same
 empty (x ∷ xs) alone b e same on = let h : length (x ∷ xs) ≡ 0 = eqb-true (length (x ∷ xs)) 0 (sym e ∙ on) in absurd (omega arith)
 
-no_rules : (file : InputFile) (es : List Entry) → flat_map (λ e. faults_at file e.row []) es ≡ []
-no_rules file [] = refl
-no_rules file (e ∷ es) = no_rules file es
-
 -- the records of a table, where there are no faults of the tables by themselves
 pub linked : (raw : RawFeed) (folder : Folder) → ReadsFolder raw folder → level_one raw ≡ [] → (file : InputFile) → is_feed_table file ≡ true
     → (o : Option (Bor (List (List (List ℕ))))) → option_map (λ t. t.now) o ≡ table_of (found_of raw file) → map (λ e. e.values) (entries folder file) ≡ records_in o
@@ -160,28 +155,15 @@ needed raw folder reads none file e is_needed o is unread =
     (ap (λ b. found_faults file b (found_of raw file)) (sym is_needed) ∙ no_own raw none file e)
     (sym is ∙ ap (option_map (λ t. t.now)) unread)
 
-module _ (geo : Geo) (folder : Folder) (lacks : LacksLaterFiles folder) where
+module _ (geo : Geo) (folder : Folder) (lacks : LacksLocations folder) where
   pub no_zones : tables geo folder Locations ≡ []
   no_zones = ap (λ r. map (λ e. e.values) (map feature_entry (features_in geo r))) lacks.locations
 
-  no_entries : (file : InputFile) → feed_entries geo folder file ≡ [] → link_faults geo folder file ≡ []
-  no_entries file e = ap (flat_map (λ x. faults_at file x.row (links_of file (tables geo folder) x.values))) e
+  no_features : link_faults geo folder Locations ≡ []
+  no_features = ap (λ r. flat_map (λ e. faults_at Locations e.row (links_of Locations (tables geo folder) e.values)) (map feature_entry (features_in geo r))) lacks.locations
 
-  -- the faults between the files are those of the trips and of their stop times
-  pub level_two-parts : link_faults geo folder Trips ++ link_faults geo folder StopTimes ≡ feed_level_two geo folder
-  level_two-parts =
-      let agency : link_faults geo folder Agency ≡ [] = no_rules Agency (entries folder Agency) in
-      let stops : link_faults geo folder Stops ≡ [] = no_rules Stops (entries folder Stops) in
-      let routes : link_faults geo folder Routes ≡ [] = no_rules Routes (entries folder Routes) in
-      let calendar : link_faults geo folder Calendar ≡ [] = no_rules Calendar (entries folder Calendar) in
-      let dates : link_faults geo folder CalendarDates ≡ [] = no_rules CalendarDates (entries folder CalendarDates) in
-      let locations : link_faults geo folder Locations ≡ [] = no_entries Locations (ap (λ r. map feature_entry (features_in geo r)) lacks.locations) in
-      let groups : link_faults geo folder LocationGroups ≡ [] = no_entries LocationGroups (absent_entries (folder LocationGroups) lacks.location_groups) in
-      let group_stops : link_faults geo folder LocationGroupStops ≡ [] = no_entries LocationGroupStops (absent_entries (folder LocationGroupStops) lacks.location_group_stops) in
-      let bookings : link_faults geo folder BookingRules ≡ [] = no_entries BookingRules (absent_entries (folder BookingRules) lacks.booking_rules) in
-      let transfers : link_faults geo folder Transfers ≡ [] = no_entries Transfers (absent_entries (folder Transfers) lacks.transfers) in
-      let frequencies : link_faults geo folder Frequencies ≡ [] = no_entries Frequencies (absent_entries (folder Frequencies) lacks.frequencies) in
-      let all : feed_level_two geo folder ≡ link_faults geo folder Trips ++ (link_faults geo folder StopTimes ++ []) =
-      λ i. agency i ++ (stops i ++ (routes i ++ (link_faults geo folder Trips ++ (link_faults geo folder StopTimes ++ (calendar i ++ (dates i
-      ++ (locations i ++ (groups i ++ (group_stops i ++ (bookings i ++ (transfers i ++ (frequencies i ++ [])))))))))))) in
-      sym (all ∙ ap (λ x. link_faults geo folder Trips ++ x) (append-nil (link_faults geo folder StopTimes)))
+  -- the faults between the files are those of the tables
+  pub level_two-exact : flat_map (link_faults geo folder) feed_tables ≡ feed_level_two geo folder
+  level_two-exact =
+      flat_map-skip (link_faults geo folder) (Agency ∷ Stops ∷ Routes ∷ Trips ∷ StopTimes ∷ Calendar ∷ CalendarDates ∷ []) Locations
+      (LocationGroups ∷ LocationGroupStops ∷ BookingRules ∷ Transfers ∷ Frequencies ∷ []) no_features

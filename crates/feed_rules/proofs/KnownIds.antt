@@ -1,17 +1,19 @@
 -- Ids that stand for the columns of files.
-use Rattle.std.proofs.Common.{◌≡◌, ℕ, Bool, true, false, not, ◌&&◌, List, [], ◌∷◌, map, fold, Option, Some, None, refl, sym, ◌∙◌, ap}
+use Rattle.std.proofs.Common.{◌≡◌, ℕ, Bool, true, false, not, ◌&&◌, List, [], ◌∷◌, ◌++◌, map, fold, Option, Some, None, refl, sym, ◌∙◌, ap}
 use Rattle.std.specs.Borrow.{Bor}
-use Rattle.std.specs.List.{list_any}
+use Rattle.std.specs.List.{list_all, list_any}
 use Rattle.std.specs.Str.{bytes_eq}
+use Rattle.std.proofs.lemmas.Bool.{and_parts}
 use Rattle.flex_model.specs.declared.fault.InputFile.{InputFile}
+use Rattle.flex_model.specs.declared.fault.InputFile.TheVariants.{LocationGroups}
 use Rattle.feed_tables.specs.Records.{RowFields, header_of, rows_of}
 use Rattle.feed_tables.specs.Refusals.{is_given}
 use Rattle.feed_meaning.specs.FeedLinks.{Tables, is_station, is_unknown}
 use Rattle.feed_meaning.specs.Indexes.{HasIds}
 use Rattle.feed_meaning.specs.Noted.{noted}
-use Rattle.feed_meaning.specs.Tables.{value_named}
+use Rattle.feed_meaning.specs.Tables.{Entry, entry_of, value_named, values_of}
 use Rattle.feed_meaning.proofs.LinkFacts.{has_ids}
-use Rattle.feed_rules.specs.Links.{StandForColumn, records_in}
+use Rattle.feed_rules.specs.Links.{HaveGroupIds, StandForColumn, records_in}
 use Prim.Native.String.{String}
 
 -- what a test says of a text counts only where the text is given
@@ -46,3 +48,12 @@ known_column table ids name found is_there noted_ids tables file column is same 
 pub no_column : (ids : List (List ℕ)) (name : List ℕ) (found : Option (Bor (List (List (List ℕ))))) → found ≡ None → ids ≡ [] → StandForColumn ids found name
 no_column ids name found is_none empty tables file column is same text given =
     ap (list_any (bytes_eq text)) empty ∙ ap (list_any (λ s. bytes_eq text (s column))) (sym (same ∙ ap records_in is_none))
+
+-- where each of the records and one more has an id, the records have, and the one more has
+pub ids_more : (header : List (List ℕ)) (seen : List RowFields) (row : RowFields) → HaveGroupIds LocationGroups (map (entry_of header) (seen ++ row ∷ []))
+    → HaveGroupIds LocationGroups (map (entry_of header) seen) × (is_given (values_of header row.fields "location_group_id") ≡ true)
+ids_more header [] row given = (refl, (and_parts (is_given (values_of header row.fields "location_group_id")) true given).0)
+ids_more header (x ∷ seen) row given =
+    let parts = and_parts (is_given (values_of header x.fields "location_group_id")) _ given in
+    let more = ids_more header seen row parts.1 in
+    (ap (λ b. b && list_all (λ (e : Entry). is_given (e.values "location_group_id")) (map (entry_of header) seen)) parts.0 ∙ more.0, more.1)

@@ -1,30 +1,24 @@
 -- The faults of the tables as they were read are those of the folder.
-use Rattle.std.proofs.Common.{◌≡◌, ℕ, ◌<◌, Bool, true, false, not, ◌&&◌, List, [], ◌∷◌, ◌++◌, ◌+◌, get_or, take, refl, sym, ◌∙◌, ap, subst, lit<}
+use Rattle.std.proofs.Common.{◌≡◌, ℕ, ◌<◌, Bool, true, false, not, List, [], ◌∷◌, ◌++◌, ◌+◌, get_or, take, refl, sym, ◌∙◌, ap, lit<}
 use Rattle.std.specs.Prelude.{if◌then◌else◌}
 use Rattle.std.specs.List.{flat_map, list_all}
+use Rattle.std.proofs.lemmas.Bool.{and_parts}
 use Rattle.std.proofs.lemmas.List.{flat_map_more, take_more}
 use Rattle.std.proofs.lemmas.List.Folds.{list_all_at}
 use Rattle.flex_model.specs.declared.fault.Fault.{Fault}
 use Rattle.flex_model.specs.declared.fault.InputFile.{InputFile}
 use Rattle.flex_model.specs.declared.fault.InputFile.TheVariants.{Agency, Stops, Routes, Trips, StopTimes, Calendar, CalendarDates, Locations, LocationGroups, LocationGroupStops, BookingRules, Transfers, Frequencies, ZoneText, ZoneTzif, Points, Direct, Walks, Queries}
-use Rattle.flex_model.specs.declared.fault.RawFile.{RawFile}
-use Rattle.flex_model.specs.declared.fault.RawFile.TheVariants as raw_file
 use Rattle.feed_tables.specs.Records.{table_records}
 use Rattle.feed_meaning.specs.FeedFaults.{Geo, feed_contents, feed_level_one}
 use Rattle.feed_meaning.specs.Folder.{Folder, counts_as_present, fetched_faults, file_faults, is_needed}
-use Rattle.feed_meaning.specs.Tables.{table_faults}
+use Rattle.feed_meaning.specs.Tables.{Entry, record_faults, table_faults, with_earlier}
 use Rattle.feed_meaning.proofs.Kept.{parts_are_nil}
 use Rattle.feed_rules.specs.Folders.{ReadsFolder, found_of, is_feed_table}
-use Rattle.feed_rules.specs.Found.{IsFound, found_faults, missing_fault, schema_of}
-use Rattle.feed_rules.specs.Levels.{AreJudged, CanJudge, LacksLaterFiles, feed_tables, is_judged, level_one, needs}
+use Rattle.feed_rules.specs.Found.{found_faults, missing_fault, schema_of}
+use Rattle.feed_rules.specs.Levels.{LacksLocations, feed_tables, level_one, needs}
 use Rattle.feed_rules.specs.declared.folder.RawFeed.{RawFeed}
 use Rattle.feed_rules.specs.declared.found.Found.{Found}
-use Rattle.feed_rules.specs.declared.found.Found.TheVariants.{Absent, TooLarge, Refused, Read}
 use Rattle.feed_rules.proofs.FoundFacts.{found_faults-exact, is_found-exact}
-
-and_parts : (a b : Bool) → (a && b) ≡ true → (a ≡ true) × (b ≡ true)
-and_parts true b e = (refl, e)
-and_parts false b e = cc
 
 -- the same parts, where they are the same at each item that passes
 flat_map-on : {X A : Type 0} (p : X → Bool) (f g : X → List A) → ((x : X) → p x ≡ true → f x ≡ g x) → (xs : List X) → list_all p xs ≡ true
@@ -35,33 +29,25 @@ flat_map-on p f g same (x ∷ xs) e =
     ap (λ ys. ys ++ flat_map f xs) (same x both.0) ∙ ap (λ ys. g x ++ ys) (flat_map-on p f g same xs both.1)
 
 -- an item without parts makes no difference
-flat_map-skip : {X A : Type 0} (f : X → List A) (xs : List X) (y : X) (ys : List X) → f y ≡ [] → flat_map f (xs ++ ys) ≡ flat_map f (xs ++ y ∷ ys)
+pub flat_map-skip : {X A : Type 0} (f : X → List A) (xs : List X) (y : X) (ys : List X) → f y ≡ [] → flat_map f (xs ++ ys) ≡ flat_map f (xs ++ y ∷ ys)
 flat_map-skip f [] y ys e = ap (λ zs. zs ++ flat_map f ys) (sym e)
 flat_map-skip f (x ∷ xs) y ys e = ap (λ zs. f x ++ zs) (flat_map-skip f xs y ys e)
 
--- a table with rules, and one that wasn't read, can be judged
-with_rules : (file : InputFile) (found : Found) → is_judged file ≡ true → CanJudge file found
-with_rules file Absent e = tt
-with_rules file TooLarge e = tt
-with_rules file (Refused r) e = tt
-with_rules file (Read t) e = e
+-- parts that are all empty
+pub no_parts : {X A : Type 0} (xs : List X) → flat_map {X = X} {A = A} (λ x. []) xs ≡ []
+no_parts [] = refl
+no_parts (x ∷ xs) = no_parts xs
 
-absent : (file : InputFile) (found : Found) (raw : RawFile) → IsFound raw found → raw ≡ raw_file.Absent → CanJudge file found
-absent file Absent raw is lacks = tt
-absent file TooLarge raw is lacks = tt
-absent file (Refused r) raw is lacks = tt
-absent file (Read t) raw (bytes, e, accepted, same) lacks = cc
-
--- other files than the tables have no faults
-pub no_table : (raw : RawFeed) (file : InputFile) → is_feed_table file ≡ false → found_faults file (needs raw file) (found_of raw file) ≡ []
-no_table raw Locations e = refl
-no_table raw ZoneText e = refl
-no_table raw ZoneTzif e = refl
-no_table raw Points e = refl
-no_table raw Direct e = refl
-no_table raw Walks e = refl
-no_table raw Queries e = refl
-no_table raw file e = cc
+-- the records of other files than the tables have no faults
+pub no_record_faults : (file : InputFile) → is_feed_table file ≡ false → (es : List Entry) → record_faults file (schema_of file).rules es ≡ []
+no_record_faults Locations e es = no_parts (with_earlier es)
+no_record_faults ZoneText e es = no_parts (with_earlier es)
+no_record_faults ZoneTzif e es = no_parts (with_earlier es)
+no_record_faults Points e es = no_parts (with_earlier es)
+no_record_faults Direct e es = no_parts (with_earlier es)
+no_record_faults Walks e es = no_parts (with_earlier es)
+no_record_faults Queries e es = no_parts (with_earlier es)
+no_record_faults file e es = cc
 
 -- where there are no faults no table has one
 pub no_own : (raw : RawFeed) → level_one raw ≡ [] → (file : InputFile) → is_feed_table file ≡ true → found_faults file (needs raw file) (found_of raw file) ≡ []
@@ -85,44 +71,33 @@ no_own raw none file e =
     by one Frequencies e = one 11 Agency (lit< tt)
     by one file e = cc
 
-all_tables : (i : ℕ) (d : InputFile) → i < 12 → is_feed_table (get_or feed_tables i d) ≡ true
+pub all_tables : (i : ℕ) (d : InputFile) → i < 12 → is_feed_table (get_or feed_tables i d) ≡ true
 all_tables i d low = by (is_feed_table (get_or feed_tables i d)) refl
   where
     by : (b : Bool) → is_feed_table (get_or feed_tables i d) ≡ b → is_feed_table (get_or feed_tables i d) ≡ true
     by true e = e
     by false e = let h = list_all_at is_feed_table feed_tables i d low e in cc
 
--- the faults of one more table
-pub level_more : (raw : RawFeed) (i : ℕ) (d : InputFile) (faults new own : List Fault) (found : Found) (is_needed : Bool) → i < 12 → AreJudged raw
-    → faults ≡ flat_map (λ file. found_faults file (needs raw file) (found_of raw file)) (take i feed_tables)
-    → found ≡ found_of raw (get_or feed_tables i d) → is_needed ≡ needs raw (get_or feed_tables i d)
-    → (CanJudge (get_or feed_tables i d) found → own ≡ found_faults (get_or feed_tables i d) is_needed found) → new ≡ faults ++ own
-    → new ≡ flat_map (λ file. found_faults file (needs raw file) (found_of raw file)) (take (i + 1) feed_tables)
-level_more raw i d faults new own found is_needed low judged seen is needed own-is pushed =
+-- the faults at one more table
+pub table_more : (f : InputFile → List Fault) (i : ℕ) (d : InputFile) (faults new own : List Fault) → i < 12 → faults ≡ flat_map f (take i feed_tables)
+    → own ≡ f (get_or feed_tables i d) → new ≡ faults ++ own → new ≡ flat_map f (take (i + 1) feed_tables)
+table_more f i d faults new own low seen here pushed =
     let file = get_or feed_tables i d in
-    let f : InputFile → List Fault = λ x. found_faults x (needs raw x) (found_of raw x) in
-    let can = subst (λ x. CanJudge file x) (sym is) (judged file (all_tables i d low)) in
-    let here : own ≡ f file = own-is can ∙ ap (λ b. found_faults file b found) needed ∙ ap (found_faults file (needs raw file)) is in
     pushed ∙ ap (λ xs. xs ++ own) seen ∙ ap (λ ys. flat_map f (take i feed_tables) ++ ys) here
     ∙ flat_map_more f [] (take i feed_tables) file ∙ ap (flat_map f) (sym (take_more feed_tables i d low))
 
-module _ (geo : Geo) (raw : RawFeed) (folder : Folder) (reads : ReadsFolder raw folder) (lacks : LacksLaterFiles folder) where
-  -- each table that was read can be judged
-  pub are_judged : AreJudged raw
-  are_judged Agency e = with_rules Agency raw.agency refl
-  are_judged Stops e = with_rules Stops raw.stops refl
-  are_judged Routes e = with_rules Routes raw.routes refl
-  are_judged Trips e = with_rules Trips raw.trips refl
-  are_judged StopTimes e = with_rules StopTimes raw.stop_times refl
-  are_judged Calendar e = absent Calendar raw.calendar (folder Calendar) (reads Calendar refl) lacks.calendar
-  are_judged CalendarDates e = with_rules CalendarDates raw.calendar_dates refl
-  are_judged LocationGroups e = absent LocationGroups raw.location_groups (folder LocationGroups) (reads LocationGroups refl) lacks.location_groups
-  are_judged LocationGroupStops e = absent LocationGroupStops raw.location_group_stops (folder LocationGroupStops) (reads LocationGroupStops refl) lacks.location_group_stops
-  are_judged BookingRules e = absent BookingRules raw.booking_rules (folder BookingRules) (reads BookingRules refl) lacks.booking_rules
-  are_judged Transfers e = absent Transfers raw.transfers (folder Transfers) (reads Transfers refl) lacks.transfers
-  are_judged Frequencies e = absent Frequencies raw.frequencies (folder Frequencies) (reads Frequencies refl) lacks.frequencies
-  are_judged file e = cc
+-- the faults of one more table by itself
+pub level_more : (raw : RawFeed) (i : ℕ) (d : InputFile) (faults new own : List Fault) (found : Found) (is_needed : Bool) → i < 12
+    → faults ≡ flat_map (λ file. found_faults file (needs raw file) (found_of raw file)) (take i feed_tables)
+    → found ≡ found_of raw (get_or feed_tables i d) → is_needed ≡ needs raw (get_or feed_tables i d)
+    → own ≡ found_faults (get_or feed_tables i d) is_needed found → new ≡ faults ++ own
+    → new ≡ flat_map (λ file. found_faults file (needs raw file) (found_of raw file)) (take (i + 1) feed_tables)
+level_more raw i d faults new own found is_needed low seen is needed own-is pushed =
+    let file = get_or feed_tables i d in
+    table_more (λ x. found_faults x (needs raw x) (found_of raw x)) i d faults new own low seen
+    (own-is ∙ ap (λ b. found_faults file b found) needed ∙ ap (found_faults file (needs raw file)) is) pushed
 
+module _ (geo : Geo) (raw : RawFeed) (folder : Folder) (reads : ReadsFolder raw folder) (lacks : LacksLocations folder) where
   -- the feed needs the table
   needs-exact : (file : InputFile) → is_feed_table file ≡ true → needs raw file ≡ is_needed folder file
   needs-exact Agency e = refl

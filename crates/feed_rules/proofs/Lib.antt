@@ -3,9 +3,12 @@ pub mod FirstZones
 pub mod SequenceFacts
 pub mod NotedSequences
 pub mod OrderFacts
+pub mod ChangeFacts
+pub mod BookingFacts
 pub mod StationFacts
 pub mod KnownIds
 pub mod FoundFacts
 pub mod FolderFacts
 pub mod LevelFacts
 pub mod KeptTables
+pub mod LinkedTables

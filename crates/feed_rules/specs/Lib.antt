@@ -3,6 +3,9 @@ pub mod StopTimes
 pub mod Sequences
 pub mod Found
 pub mod Orders
+pub mod Calendars
+pub mod Transfers
+pub mod BookingRules
 pub mod Links
 pub mod Fetched
 pub mod Folders

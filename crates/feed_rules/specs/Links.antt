@@ -1,7 +1,7 @@
 -- What stands for the tables that records name.
 use Rattle.std.specs.Prelude.{◌≡◌, ℕ, List, [], map, true, Option, Some, None, codes}
 use Rattle.std.specs.Borrow.{Bor}
-use Rattle.std.specs.List.{list_any}
+use Rattle.std.specs.List.{list_all, list_any}
 use Rattle.std.specs.Str.{bytes_eq}
 use Rattle.feed_tables.specs.Refusals.{is_given}
 use Rattle.flex_model.specs.declared.fault.InputFile.{InputFile}
@@ -9,7 +9,7 @@ use Rattle.flex_model.specs.declared.fault.InputFile.TheVariants.{Stops, Routes,
 use Rattle.feed_meaning.specs.FeedLinks.{Tables, is_station}
 use Rattle.feed_meaning.specs.Indexes.{HasIds}
 use Rattle.feed_meaning.specs.Rules.{Values}
-use Rattle.feed_meaning.specs.Tables.{entries_of}
+use Rattle.feed_meaning.specs.Tables.{Entry, entries_of}
 use Rattle.feed_rules.specs.declared.known_ids.LinkTables.{LinkTables}
 use Rattle.feed_rules.specs.declared.links.LinkIds.{LinkIds}
 use Prim.Native.String.{String}
@@ -45,3 +45,8 @@ pub record AreTablesOf (found : LinkTables) (tables : Tables) : Type 0 where
   pub groups : tables LocationGroups ≡ records_in found.groups
   pub booking_rules : tables BookingRules ≡ records_in found.booking_rules
   pub zones : tables Locations ≡ []
+
+-- each record of location_groups.txt has an id
+abbrev pub HaveGroupIds : InputFile → List Entry → Type 0
+HaveGroupIds LocationGroups es = list_all (λ e. is_given (e.values "location_group_id")) es ≡ true
+HaveGroupIds file es = Unit {0}

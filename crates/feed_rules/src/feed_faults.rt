@@ -1,19 +1,23 @@
 // The fault list of a feed.
 
 ghost use Rattle.std.specs.Prelude.{◌≡◌, ◌++◌, [], IfOk, OnOk};
-ghost use Rattle.feed_meaning.specs.FeedFaults.{Geo, feed_faults, feed_level_two, tables};
+ghost use Rattle.std.specs.List.{flat_map};
+ghost use Rattle.flex_model.specs.declared.fault.InputFile.TheVariants as Files;
+ghost use Rattle.feed_meaning.specs.FeedFaults.{Geo, feed_faults, feed_level_two, link_faults, tables};
 ghost use Rattle.feed_meaning.specs.Folder.{Folder};
 ghost use Rattle.feed_rules.specs.Folders.{ReadsFolder};
 ghost use Rattle.feed_rules.specs.Levels as Levels;
-ghost use Rattle.feed_rules.specs.Levels.{AreJudged, LacksLaterFiles};
-ghost use Rattle.feed_rules.specs.Links.{AreTablesOf};
+ghost use Rattle.feed_rules.specs.Levels.{LacksLocations};
+ghost use Rattle.feed_rules.specs.Links.{AreTablesOf, StandFor};
+ghost use Rattle.feed_rules.specs.Orders.{AreOrdersOf};
 
 use crate::file_faults::table_faults;
+use crate::file_links::file_link_faults;
 use crate::folder::RawFeed;
 use crate::found::is_found;
 use crate::known_ids::{LinkTables, link_ids};
-use crate::links::{stop_time_link_faults, trip_link_faults};
-use crate::orders::trip_order;
+use crate::links::LinkIds;
+use crate::orders::{TripOrder, trip_order};
 use flex_model::{Fault, InputFile, Listed, NoMemory};
 use std::alloc::Global;
 
@@ -60,7 +64,7 @@ fn add_all(faults: &mut Listed<Fault>, more: &Listed<Fault>) -> Result<(), NoMem
 
 // The faults of the tables by themselves.
 fn level_one(alloc: Global, raw: &RawFeed) -> Result<Listed<Fault>, NoMemory>
-    ensures { IfOk result (λ faults. AreJudged raw.now → faults ≡ Levels.level_one raw.now) }
+    ensures { IfOk result (λ faults. faults ≡ Levels.level_one raw.now) }
 {
     let mut faults = Listed::new(alloc);
     for file in FEED_TABLES {
@@ -75,7 +79,7 @@ fn level_one(alloc: Global, raw: &RawFeed) -> Result<Listed<Fault>, NoMemory>
 
 // The tables that records name.
 fn link_tables(raw: &RawFeed) -> LinkTables<'_>
-    ensures { (geo : Geo) (folder : Folder) → ReadsFolder raw.now folder → LacksLaterFiles folder → Levels.level_one raw.now ≡ []
+    ensures { (geo : Geo) (folder : Folder) → ReadsFolder raw.now folder → LacksLocations folder → Levels.level_one raw.now ≡ []
         → AreTablesOf result (tables geo folder) }
 {
     LinkTables {
@@ -89,30 +93,46 @@ fn link_tables(raw: &RawFeed) -> LinkTables<'_>
     }
 }
 
+// The faults between the tables.
+fn all_link_faults<'a>(
+    alloc: Global,
+    raw: &'a RawFeed,
+    ids: &LinkIds<'_>,
+    order: &TripOrder<'a>,
+) -> Result<Listed<Fault>, NoMemory>
+    ensures { IfOk result (λ faults. (geo : Geo) (folder : Folder) → ReadsFolder raw.now folder → Levels.level_one raw.now ≡ []
+        → StandFor ids.now (tables geo folder) → AreOrdersOf order.now (tables geo folder Files.StopTimes)
+        → faults ≡ flat_map (link_faults geo folder) Levels.feed_tables) }
+{
+    let mut faults = Listed::new(alloc);
+    for file in FEED_TABLES {
+        let Some(table) = raw.table(file) else {
+            continue;
+        };
+        let own = file_link_faults(alloc, file, table, ids, order)?;
+        add_all(&mut faults, &own)?;
+    }
+    Ok(faults)
+}
+
 // The faults between the tables, where there are none of the tables by themselves.
 fn level_two(alloc: Global, raw: &RawFeed) -> Result<Listed<Fault>, NoMemory>
-    ensures { IfOk result (λ faults. (geo : Geo) (folder : Folder) → ReadsFolder raw.now folder → LacksLaterFiles folder → Levels.level_one raw.now ≡ []
+    ensures { IfOk result (λ faults. (geo : Geo) (folder : Folder) → ReadsFolder raw.now folder → LacksLocations folder → Levels.level_one raw.now ≡ []
         → faults ≡ feed_level_two geo folder) }
 {
     let found = link_tables(raw);
-    let Some(trips) = raw.table(InputFile::Trips) else {
-        return Ok(Listed::new(alloc));
-    };
     let Some(stop_times) = raw.table(InputFile::StopTimes) else {
         return Ok(Listed::new(alloc));
     };
     let ids = link_ids(alloc, &found)?;
     let order = trip_order(alloc, stop_times)?;
-    let mut faults = trip_link_faults(alloc, trips, &ids)?;
-    let more = stop_time_link_faults(alloc, stop_times, &ids, &order)?;
-    add_all(&mut faults, &more)?;
-    Ok(faults)
+    all_link_faults(alloc, raw, &ids, &order)
 }
 
 /// The fault list of the feed: of the tables by themselves, and where that is empty, of the tables beside each other. It is
-/// the whole list where the files are absent whose records aren't judged yet.
+/// the whole list where locations.geojson, which isn't read here, is absent.
 pub fn faults(alloc: Global, raw: &RawFeed) -> Result<Listed<Fault>, NoMemory>
-    ensures { IfOk result (λ faults. (geo : Geo) (folder : Folder) → ReadsFolder raw.now folder → LacksLaterFiles folder → faults ≡ feed_faults geo folder) }
+    ensures { IfOk result (λ faults. (geo : Geo) (folder : Folder) → ReadsFolder raw.now folder → LacksLocations folder → faults ≡ feed_faults geo folder) }
 {
     let alone = level_one(alloc, raw)?;
     if !alone.as_slice().is_empty() {

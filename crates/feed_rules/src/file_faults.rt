@@ -1,19 +1,24 @@
 // The faults of each table by itself.
 
-ghost use Rattle.std.specs.Prelude.{◌≡◌, IfOk, IsTrue, codes, map, true};
+ghost use Rattle.std.specs.Prelude.{◌≡◌, IfOk, IsTrue, codes, map};
 ghost use Rattle.std.specs.List.{list_all};
 ghost use Rattle.feed_tables.specs.Refusals.{is_given};
 ghost use Rattle.feed_meaning.specs.Tables.{entries_of, record_faults};
 ghost use Rattle.feed_rules.specs.Found as Words;
 ghost use Rattle.feed_rules.specs.Found.{found_faults, schema_of};
-ghost use Rattle.feed_rules.specs.Levels.{CanJudge, is_judged};
 
 use crate::agency::agency_faults;
+use crate::booking_rules::booking_rule_faults;
+use crate::calendar::calendar_faults;
 use crate::calendar_dates::calendar_date_faults;
 use crate::found::{Found, is_found};
+use crate::frequencies::frequency_faults;
+use crate::location_group_stops::group_stop_faults;
+use crate::location_groups::group_faults;
 use crate::routes::route_faults;
 use crate::stop_times::stop_time_faults;
 use crate::stops::stop_faults;
+use crate::transfers::transfer_faults;
 use crate::trips::trip_faults;
 use feed_meaning::{add_missing_columns, refusal_fault};
 use feed_tables::{Table, TableRefusal};
@@ -53,9 +58,9 @@ fn needed_columns(file: InputFile) -> &'static [&'static str]
     }
 }
 
-// The faults of the records of a table. The tables that are left out here have their rules in no module yet.
+// The faults of the records of a table, by the rules of its file. Other files than the twelve tables have no rules.
 fn row_faults(alloc: Global, file: InputFile, table: &Table) -> Result<Listed<Fault>, NoMemory>
-    ensures { IfOk result (λ faults. is_judged file ≡ true → faults ≡ record_faults file (schema_of file).rules (entries_of table.now)) }
+    ensures { IfOk result (λ faults. faults ≡ record_faults file (schema_of file).rules (entries_of table.now)) }
 {
     match file {
         InputFile::Agency => agency_faults(alloc, table),
@@ -63,7 +68,13 @@ fn row_faults(alloc: Global, file: InputFile, table: &Table) -> Result<Listed<Fa
         InputFile::Routes => route_faults(alloc, table),
         InputFile::Trips => trip_faults(alloc, table),
         InputFile::StopTimes => stop_time_faults(alloc, table),
+        InputFile::Calendar => calendar_faults(alloc, table),
         InputFile::CalendarDates => calendar_date_faults(alloc, table),
+        InputFile::LocationGroups => group_faults(alloc, table),
+        InputFile::LocationGroupStops => group_stop_faults(alloc, table),
+        InputFile::BookingRules => booking_rule_faults(alloc, table),
+        InputFile::Transfers => transfer_faults(alloc, table),
+        InputFile::Frequencies => frequency_faults(alloc, table),
         _ => Ok(Listed::new(alloc)),
     }
 }
@@ -112,7 +123,7 @@ pub(crate) fn table_faults(
     is_needed: bool,
     found: &Found,
 ) -> Result<Listed<Fault>, NoMemory>
-    ensures { IfOk result (λ faults. CanJudge file found.now → faults ≡ found_faults file is_needed found.now) }
+    ensures { IfOk result (λ faults. faults ≡ found_faults file is_needed found.now) }
 {
     let outer = outer_faults(alloc, file, is_needed, found)?;
     let Found::Read(table) = found else {

@@ -2,21 +2,29 @@
 #![tactic(auto)]
 
 mod agency;
+mod booking_rules;
+mod calendar;
 mod calendar_dates;
 mod feed_faults;
 mod fields;
 mod file_faults;
+mod file_links;
 mod folder;
 mod found;
+mod frequencies;
 mod keys;
 mod known_ids;
 mod links;
+mod location_group_stops;
+mod location_groups;
 mod orders;
+mod other_links;
 mod routes;
 mod sequences;
 mod stations;
 mod stop_times;
 mod stops;
+mod transfers;
 mod trips;
 
 pub use agency::agency_faults;

@@ -34,8 +34,8 @@ pub(crate) struct LinkIds<'a> {
     pub(crate) booking_rules: Ids<'a>,
 }
 
-// Whether a text is given and not among the ids.
-fn is_unknown(ids: &Ids<'_>, text: &str) -> bool
+/// Whether a text is given and not among the ids.
+pub(crate) fn is_unknown(ids: &Ids<'_>, text: &str) -> bool
     ensures { result ≡ (is_given text.now && not (list_any (bytes_eq text.now) ids.now)) }
 {
     is_given(text) && !ids.has(text)
@@ -48,8 +48,8 @@ fn is_known(ids: &Ids<'_>, text: &str) -> bool
     is_given(text) && ids.has(text)
 }
 
-// Whether a text is given and no service of either calendar.
-fn is_unknown_service(ids: &LinkIds<'_>, service: &str) -> bool
+/// Whether a text is given and no service of either calendar.
+pub(crate) fn is_unknown_service(ids: &LinkIds<'_>, service: &str) -> bool
     ensures { (tables : Tables) → StandFor ids.now tables → result ≡ FeedLinks.is_unknown_service tables service.now }
 {
     is_unknown(&ids.calendar, service) && is_unknown(&ids.dates, service)

@@ -4,25 +4,25 @@ use Rattle.flex_model.specs.declared.fault.Fault.{Fault}
 use Rattle.feed_meaning.specs.FeedFaults.{Geo, feed_faults, feed_level_one, feed_level_two}
 use Rattle.feed_meaning.specs.Folder.{Folder}
 use Rattle.feed_rules.specs.Folders.{ReadsFolder}
-use Rattle.feed_rules.specs.Levels.{LacksLaterFiles, level_one}
+use Rattle.feed_rules.specs.Levels.{LacksLocations, level_one}
 use Rattle.feed_rules.proofs.KeptTables.{empty, first_empty, first_given, nonempty}
-use Rattle.feed_rules.proofs.LevelFacts.{are_judged, level_one-exact}
+use Rattle.feed_rules.proofs.LevelFacts.{level_one-exact}
 use Rattle.feed_rules.proofs.feed_faults.faults.Goals as goal
 
 pub returns-then-not-is_empty : goal.returns-then-not-is_empty
 returns-then-not-is_empty c geo folder reads lacks =
     first_given c.in_ok-alone.alone (feed_level_one geo folder) (feed_level_two geo folder)
-    (c.in_ok-alone.ensures (are_judged geo c.args.raw.now folder reads lacks) ∙ level_one-exact geo c.args.raw.now folder reads lacks)
+    (c.in_ok-alone.ensures ∙ level_one-exact geo c.args.raw.now folder reads lacks)
     (nonempty c.as_slice.result.now c.in_ok-alone.alone c.is_empty.result c.is_empty.ensures c.as_slice.ensures c.if-not-is_empty.true)
 
 pub returns : goal.returns
 returns c =
     let raw = c.args.raw.now in
-    let P : List Fault → Type 0 = λ faults. (geo : Geo) (folder : Folder) → ReadsFolder raw folder → LacksLaterFiles folder → level_one raw ≡ [] → faults ≡ feed_level_two geo folder in
-    let Q : List Fault → Type 0 = λ faults. (geo : Geo) (folder : Folder) → ReadsFolder raw folder → LacksLaterFiles folder → faults ≡ feed_faults geo folder in
+    let P : List Fault → Type 0 = λ faults. (geo : Geo) (folder : Folder) → ReadsFolder raw folder → LacksLocations folder → level_one raw ≡ [] → faults ≡ feed_level_two geo folder in
+    let Q : List Fault → Type 0 = λ faults. (geo : Geo) (folder : Folder) → ReadsFolder raw folder → LacksLocations folder → faults ≡ feed_faults geo folder in
     IfOk-weaker c.level_two.result P Q
     (λ faults beside geo folder reads lacks.
-    let none : level_one raw ≡ [] = sym (c.in_ok-alone.ensures (are_judged geo raw folder reads lacks))
+    let none : level_one raw ≡ [] = sym c.in_ok-alone.ensures
     ∙ empty c.as_slice.result.now c.in_ok-alone.alone c.is_empty.result c.is_empty.ensures c.as_slice.ensures c.if-not-is_empty.false in
     beside geo folder reads lacks none
     ∙ first_empty (feed_level_one geo folder) (feed_level_two geo folder) (sym (level_one-exact geo raw folder reads lacks) ∙ none))
