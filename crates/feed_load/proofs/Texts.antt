@@ -12,7 +12,7 @@ use Rattle.feed_meaning.specs.Noted.{noted}
 use Rattle.feed_meaning.specs.Rules.{Values}
 use Rattle.feed_meaning.specs.Tables.{value_named, values_of}
 use Rattle.feed_meaning.proofs.NamedLists.{noted_of_ids}
-use Rattle.feed_load.specs.PlainTables.{values_in, values_under}
+use Rattle.feed_load.specs.TableValues.{values_in, values_under}
 use Prim.Native.String.{String}
 
 -- the text that was read of a record in a column

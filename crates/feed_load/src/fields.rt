@@ -4,11 +4,9 @@ ghost use Rattle.std.specs.Prelude.{◌≡◌, IfOk, pos, unwrap_or};
 ghost use Rattle.feed_meaning.specs.FeedRules.{sequence};
 ghost use Rattle.feed_meaning.specs.FeedValue.{coordinate};
 ghost use Rattle.feed_meaning.specs.FeedValue as Value;
-ghost use Rattle.feed_load.specs.PlainValues as Words;
 
-use feed_meaning::is_text;
-use field_text::{read_count, read_date, read_degree, read_time};
-use flex_model::{NoMemory, Text, Timing, Way};
+use field_text::{read_count, read_date, read_degree};
+use flex_model::{NoMemory, Text};
 use std::alloc::Global;
 
 // 180 and 90 degrees, in units of 10^-15 degree.
@@ -65,28 +63,5 @@ pub(crate) fn sequence_of(text: &str) -> u32
     match read_count(text, MOST_SEQUENCE) {
         Ok(number) => number as u32,
         Err(_) => 0,
-    }
-}
-
-/// The times of a record, one of which stands for both.
-pub(crate) fn times_of(arrival: &str, departure: &str) -> Timing
-    ensures { result ≡ Words.times_of arrival.now departure.now }
-{
-    let arrives = read_time(arrival).ok();
-    let departs = read_time(departure).ok();
-    Timing::Times {
-        arrives: arrives.or(departs).unwrap_or(0),
-        departs: departs.or(arrives).unwrap_or(0),
-    }
-}
-
-/// How one boards or alights without booking: not at all at type 1.
-pub(crate) fn unbooked_way(kind: &str) -> Way
-    ensures { result ≡ Words.unbooked_way kind.now }
-{
-    if is_text(kind, "1") {
-        Way::No
-    } else {
-        Way::Free
     }
 }

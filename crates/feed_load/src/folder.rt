@@ -1,42 +1,28 @@
 // Loading a feed folder.
 
-ghost use Rattle.std.specs.Prelude.{◌≡◌, ◌≤◌, ◌↔◌, All, IfOk, IfSome, IsErrOf, IsTrue};
-ghost use Rattle.flex_model.specs.declared.fault.RawFile.TheVariants as Raw;
+ghost use Rattle.std.specs.Prelude.{◌≡◌, ◌≤◌, IfOk, IfSome, IsErrOf};
 ghost use Rattle.flex_io.specs.Outside.{HasFailed};
 ghost use Rattle.feed_meaning.specs.Told.{told_folder};
 ghost use Rattle.feed_rules.specs.Folders.{folder_of};
 ghost use Rattle.feed_load.specs.Loads.{IsLoaded, IsSoundLoad};
-ghost use Rattle.feed_load.specs.PlainFolder.{unread_files};
 
-use crate::accepted::accepted_tables;
+use crate::accepted::{Judged, judge};
 use crate::feed::feed_of;
 use crate::fetch::fetch_feed;
-use crate::schedule::are_scheduled;
 use feed_rules::{FeedBytes, RawFeed};
 use flex_io::{Files, LoadError};
-use flex_model::{Feed, InputFile, NoMemory};
+use flex_model::{Fault, Feed, InputFile, Listed, NoMemory};
 use std::alloc::Global;
 
 /// What a feed folder holds.
 #[derive(Debug, Drop)]
 pub enum Loaded {
-    /// The feed of an accepted folder of scheduled trips.
+    /// The feed of an accepted folder.
     Clean(Feed),
-    /// The folder isn't accepted, or has more than scheduled trips.
-    NotPlain,
-}
-
-// Whether the files that aren't read yet are absent: calendar.txt and those from locations.geojson on.
-fn lacks_unread(bytes: &FeedBytes) -> bool
-    ensures { IsTrue result ↔ All (λ file. folder_of bytes.now file ≡ Raw.Absent) unread_files }
-{
-    bytes.is_absent(InputFile::Calendar)
-        && bytes.is_absent(InputFile::Locations)
-        && bytes.is_absent(InputFile::LocationGroups)
-        && bytes.is_absent(InputFile::LocationGroupStops)
-        && bytes.is_absent(InputFile::BookingRules)
-        && bytes.is_absent(InputFile::Transfers)
-        && bytes.is_absent(InputFile::Frequencies)
+    /// The fault list of a folder that isn't accepted.
+    Faulty(Listed<Fault>),
+    /// The folder has locations.geojson, which isn't read yet.
+    Unbuilt,
 }
 
 // What the files of a feed hold.
@@ -44,18 +30,18 @@ fn read_folder(alloc: Global, bytes: &FeedBytes) -> Result<Loaded, NoMemory>
     ensures loaded { IfOk result (IsLoaded (folder_of bytes.now)) }
     ensures sound { IfOk result IsSoundLoad }
 {
-    if !lacks_unread(bytes) {
-        return Ok(Loaded::NotPlain);
+    if !bytes.is_absent(InputFile::Locations) {
+        return Ok(Loaded::Unbuilt);
     }
     let raw = RawFeed::read(alloc, bytes)?;
-    let Some(tables) = accepted_tables(alloc, &raw)? else {
-        return Ok(Loaded::NotPlain);
-    };
-    if !are_scheduled(tables.stop_times) {
-        return Ok(Loaded::NotPlain);
+    let judged = judge(alloc, &raw)?;
+    match judged {
+        Judged::Accepted(tables) => {
+            let feed = feed_of(alloc, tables)?;
+            Ok(Loaded::Clean(feed))
+        }
+        Judged::Faulty(faults) => Ok(Loaded::Faulty(faults)),
     }
-    let feed = feed_of(alloc, &tables)?;
-    Ok(Loaded::Clean(feed))
 }
 
 /// Fetches the thirteen files of the folder, each once and in their order, and reads them.

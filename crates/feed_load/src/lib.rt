@@ -2,15 +2,23 @@
 #![tactic(auto)]
 
 mod accepted;
+mod booking_rules;
+mod changes;
+mod drafts;
 mod feed;
 mod fetch;
 mod fields;
 mod folder;
-mod schedule;
-mod services;
-mod stop_times;
+mod groups;
+mod linear_times;
+mod named_ids;
+mod plain;
 mod stops;
 mod tables;
-mod trips;
+mod weekly;
+mod weeks;
+mod whole_trips;
 
 pub use folder::{Loaded, load};
+pub use linear_times::{GivenRow, fill_times};
+pub use plain::is_plain;

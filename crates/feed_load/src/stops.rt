@@ -4,7 +4,7 @@ ghost use Rattle.std.specs.Prelude.{◌≡◌, ◌||◌, IfOk, map};
 ghost use Rattle.feed_meaning.specs.FeedValue as Value;
 ghost use Rattle.feed_meaning.specs.FeedValue.{coordinate};
 ghost use Rattle.feed_meaning.specs.Rules as Words;
-ghost use Rattle.feed_load.specs.PlainTables.{values_in};
+ghost use Rattle.feed_load.specs.TableValues.{values_in};
 
 use crate::fields::{latitude, longitude, text_of};
 use feed_meaning::{is_empty, is_text, value};

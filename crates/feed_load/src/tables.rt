@@ -1,12 +1,18 @@
-// The tables of a plain feed.
+// The tables of a feed.
 
 use feed_tables::Table;
 
-/// The tables that a plain feed is read from.
+/// The tables that a feed is read from. Those that no folder can do without are there.
 #[derive(Clone, Copy)]
-pub(crate) struct PlainTables<'a> {
+pub(crate) struct FeedTables<'a> {
     pub(crate) stops: &'a Table,
     pub(crate) trips: &'a Table,
     pub(crate) stop_times: &'a Table,
-    pub(crate) dates: &'a Table,
+    pub(crate) calendar: Option<&'a Table>,
+    pub(crate) dates: Option<&'a Table>,
+    pub(crate) groups: Option<&'a Table>,
+    pub(crate) group_stops: Option<&'a Table>,
+    pub(crate) booking_rules: Option<&'a Table>,
+    pub(crate) transfers: Option<&'a Table>,
+    pub(crate) frequencies: Option<&'a Table>,
 }

@@ -1,0 +1,19 @@
+use Rattle.std.proofs.Common.{refl, ◌∙◌}
+use Rattle.std.proofs.lemmas.List.Filters.{dedup_is}
+use Rattle.std.proofs.lemmas.List.Kept.{AllPairs-from_increasing, Contains-dedup_nat, Contains-from_dedup}
+use Rattle.std.proofs.lemmas.List.Sorted.{Contains-permutation, IsPermutation-sym}
+use Rattle.std.proofs.lemmas.Map.Keys.{IsStrictlyIncreasing-dedup}
+use Rattle.feed_load.proofs.groups.rising_group.Goals as goal
+
+pub returns : goal.returns
+returns c =
+    let is = c.from_vec.ensures ∙ dedup_is _ _ _ c.dedup.ensures.filtered in
+    let moved = c.sort_unstable.ensures.permutation in
+    record {
+      id = refl;
+      rise = rw is (AllPairs-from_increasing _ (IsStrictlyIncreasing-dedup _ c.sort_unstable.ensures.sorted));
+      same = λ k. (
+        λ h. rw (← c.into_vec-members.ensures) (Contains-permutation _ _ k (IsPermutation-sym _ _ moved) (Contains-from_dedup _ _ k (rw is at h))),
+        λ h. rw is (Contains-dedup_nat _ k (Contains-permutation _ _ k moved (rw (← c.into_vec-members.ensures) at h))),
+      );
+    }

@@ -1,0 +1,7 @@
+use Rattle.std.proofs.Common.{◌≡◌, [], map, take}
+use Rattle.feed_meaning.specs.FeedValue.{service_of}
+use Rattle.feed_load.specs.Calendars.{calendars}
+use Rattle.feed_load.proofs.weeks.bare_services.Given as goal
+
+abbrev pub invariant-loop-place : goal.invariant-loop-place
+invariant-loop-place l = l.services.items ≡ map (service_of (calendars [] [])) (take l.place l.ids)

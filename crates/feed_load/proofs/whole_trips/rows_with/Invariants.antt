@@ -1,0 +1,12 @@
+use Rattle.std.proofs.Common.{◌≡◌, ◌<◌, ℕ, length, get_or}
+use Rattle.flex_model.specs.declared.trip.Row.{Row}
+use Rattle.feed_load.specs.Drafts.{row_with}
+use Rattle.feed_load.specs.LinearTimes.{row_at}
+use Rattle.feed_load.specs.declared.drafts.Draft.{Draft}
+use Rattle.feed_load.proofs.whole_trips.rows_with.Given as goal
+
+abbrev pub invariant-loop-place : goal.invariant-loop-place
+invariant-loop-place l = record {
+  many : length l.rows ≡ l.place;
+  each : (i : ℕ) (row : Row) (draft : Draft) → i < l.place → get_or l.rows i row ≡ row_with (get_or l.drafts i draft) (row_at l.times i);
+}
