@@ -27,4 +27,4 @@ with_transfers files paths held its raw read holds raw_is is others =
     let same : (f : Feed) (t : Times) (r : RawFile) → held ≡ f → its ≡ t → raw ≡ r → AreRead f t r (Clean read)
     = λ f t r fe te re. subst (λ x. AreRead x t r (Clean read)) fe (subst (λ x. AreRead held x r (Clean read)) te (subst (λ x. AreRead held its x (Clean read)) re is)) in
     let told = same _ _ _ holds.1 holds.2 raw_is in
-    inr (holds.0, told.0, (λ all. others (subst (All (λ query. query.transfers ≡ 0)) (sym told.1) all)))
+    inr (inr (holds.0, told.0, (λ all. others (subst (All (λ query. query.transfers ≡ 0)) (sym told.1) all))))

@@ -8,6 +8,9 @@ use Rattle.flex_model.specs.declared.fault.Fault.{Fault}
 use Rattle.flex_model.specs.declared.feed.Feed.{Feed}
 use Rattle.flex_model.specs.declared.query.Query.{Query}
 use Rattle.flex_model.specs.declared.times.Times.{Times}
+use Rattle.feed_meaning.specs.Told.{told_folder}
+use Rattle.feed_load.specs.Loads.{IsLoaded}
+use Rattle.feed_load.specs.declared.folder.Loaded.TheVariants.{Clean, Faulty}
 use Rattle.query_io.specs.AnswerText.{answer_text}
 use Rattle.service_days.specs.Bases.{table_of, utc_bases}
 use Rattle.flexplan.specs.Answers.{Piece, fault_lines, answer, IsAnswerText, RightText}
@@ -16,7 +19,7 @@ use Rattle.flexplan.specs.Input.{feed, times}
 use Rattle.flexplan.specs.Opened.{IsOpened, IsRefused, IsSoundOpening}
 use Rattle.flexplan.specs.Reply.{IsPlanReply, IsReply, IsRight, IsFinished, MayHavePrinted, PrintsRight, status_of, end_of}
 use Rattle.flexplan.specs.Texts.{Prints, PrintsAll}
-use Rattle.flexplan.specs.Words.{InputPaths, Request, plan}
+use Rattle.flexplan.specs.Words.{InputPaths, Request, lint, plan}
 use Rattle.flexplan.specs.declared.input.Input as declared
 use Rattle.flexplan.specs.declared.input.Opened.TheVariants.{Accepted, Refused}
 use Rattle.flexplan.specs.declared.input.Opened.TheVariants as opened
@@ -86,14 +89,15 @@ accepted request told pieces before after printed end known end_is gains =
     if_told told _ _ known (λ files reply. gains_as before after _ _ gains (λ bytes prints.
     subst (λ e. MayHavePrinted request files (status_of e) bytes) (sym end_is) (accepted_printed request files pieces printed bytes reply prints)))
 
--- only the query file is refused
+-- the feed or the query file is refused
 refused_as : (files : FileMap) (paths : InputPaths) (s : Status) (faults : List Fault) → IsRefused files paths s faults
     → IsPlanReply files paths s (fault_lines faults ∷ [])
 refused_as files paths status.QueriesFaulty faults is =
     (is.0, ((λ none. is.1 (is.2 ∙ none)), ap (λ fs. fault_lines fs ∷ []) is.2))
 refused_as files paths status.Done faults none = absurd none
 refused_as files paths status.Usage faults none = absurd none
-refused_as files paths status.FeedFaulty faults none = absurd none
+refused_as files paths status.FeedFaulty faults is =
+    (is.0, ((λ none. is.1 (is.2 ∙ none)), ap (λ fs. fault_lines fs ∷ []) is.2))
 refused_as files paths status.TimesFaulty faults none = absurd none
 refused_as files paths status.CertRefused faults none = absurd none
 refused_as files paths status.ReadFault faults none = absurd none
@@ -122,7 +126,7 @@ plan_not_built told paths before is =
 
 pub refusal_finishes : (s : Status) (faults : List Fault) → IsSoundOpening (Refused s faults) → IsFinished s
 refusal_finishes status.QueriesFaulty faults _ = tt
-refusal_finishes status.FeedFaulty faults none = absurd none
+refusal_finishes status.FeedFaulty faults _ = tt
 refusal_finishes status.TimesFaulty faults none = absurd none
 refusal_finishes status.CertRefused faults none = absurd none
 refusal_finishes status.Done faults none = absurd none
@@ -131,3 +135,15 @@ refusal_finishes status.ReadFault faults none = absurd none
 refusal_finishes status.WriteFault faults none = absurd none
 refusal_finishes status.NoMemory faults none = absurd none
 refusal_finishes status.NotBuilt faults none = absurd none
+
+-- a feed without faults prints nothing
+pub lint_clean : (told : Option FileMap) (folder : List ℕ) (held : Feed) (before : Option (List ℕ)) → IfSome told (λ files. IsLoaded (told_folder files folder) (Clean held))
+    → PrintsRight (lint folder) told status.Done before before
+lint_clean told folder held before is =
+    if_told told _ _ is (λ files loaded. gains_nothing before _ ([], (loaded.0, loaded.1, refl), refl))
+
+-- the fault list of a feed
+pub lint_faulty : (told : Option FileMap) (folder : List ℕ) (faults : List Fault) → IfSome told (λ files. IsLoaded (told_folder files folder) (Faulty faults))
+    → IfSome told (λ files. IsReply (lint folder) files status.FeedFaulty (fault_lines faults ∷ []))
+lint_faulty told folder faults is =
+    if_told told _ _ is (λ files loaded. (loaded.0, ((λ none. loaded.1 (loaded.2 ∙ none)), ap (λ fs. fault_lines fs ∷ []) loaded.2)))

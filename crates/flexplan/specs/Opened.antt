@@ -7,26 +7,27 @@ use Rattle.flex_model.specs.SoundTimes.{AreSoundTimes}
 use Rattle.flex_model.specs.declared.feed.Feed.{Feed}
 use Rattle.flex_model.specs.declared.times.Times.{Times}
 use Rattle.flex_model.specs.PlainFeed.{IsPlainFeed}
-use Rattle.feed_load.specs.PlainFolder.{IsPlainFolder}
 use Rattle.service_days.specs.Bases.{utc_bases}
-use Rattle.flexplan.specs.Input.{IsBuilt, IsNotBuilt, IsScheduled, faults_of_queries, feed, feed_folder, queries, times}
+use Rattle.flexplan.specs.Input.{IsAccepted, IsBuilt, IsNotBuilt, IsScheduled, LacksZones, faults_of_feed, faults_of_queries, feed, feed_folder, queries, times}
 use Rattle.flexplan.specs.Words.{InputPaths}
 use Rattle.flexplan.specs.declared.input.Input as declared
 use Rattle.flexplan.specs.declared.input.Opened.{Opened}
 use Rattle.flexplan.specs.declared.input.Opened.TheVariants.{Accepted, Refused, NotBuilt}
 use Rattle.flexplan.specs.declared.status.Status.{Status}
-use Rattle.flexplan.specs.declared.status.Status.TheVariants.{QueriesFaulty}
+use Rattle.flexplan.specs.declared.status.Status.TheVariants.{FeedFaulty, QueriesFaulty}
 use Rattle.flex_model.specs.declared.fault.Fault.{Fault}
 
--- the query file has these faults, and what is fetched before it has none
+-- the feed, or else the query file, has these faults, and what is fetched before it has none
 abbrev pub IsRefused : FileMap → InputPaths → Status → List Fault → Type 0
+IsRefused files paths FeedFaulty faults =
+    LacksZones (feed_folder files paths) × (faults ≢ []) × (faults ≡ faults_of_feed (feed_folder files paths))
 IsRefused files paths QueriesFaulty faults =
     IsScheduled files paths × (faults ≢ []) × (faults ≡ faults_of_queries files paths)
 IsRefused files paths _ faults = ⊥
 
 -- the feed is that of the bytes
 abbrev pub HoldsFeed : FileMap → InputPaths → Feed → Type 0
-HoldsFeed files paths held = IsPlainFolder (feed_folder files paths) × (held ≡ feed files paths)
+HoldsFeed files paths held = IsAccepted files paths × (held ≡ feed files paths)
 
 -- the feed and the times are those of the bytes
 abbrev pub HoldsTimes : FileMap → InputPaths → Feed → Times → Type 0
@@ -58,6 +59,7 @@ pub record IsSoundInput (input : declared.Input) : Type 0 where
 
 abbrev pub IsSoundOpening : Opened → Type 0
 IsSoundOpening (Accepted input) = IsSoundInput input
+IsSoundOpening (Refused FeedFaulty faults) = Unit {0}
 IsSoundOpening (Refused QueriesFaulty faults) = Unit {0}
 IsSoundOpening (Refused _ faults) = ⊥
 IsSoundOpening NotBuilt = Unit {0}

@@ -3,8 +3,10 @@ use Rattle.std.specs.Prelude.{◌≡◌, ◌≢◌, ◌⊎◌, ℕ, List, [], �
 use Rattle.flex_io.specs.Outside.{FileMap, Gains, IsBeginning}
 use Rattle.flex_io.specs.declared.error.PutError.{PutError}
 use Rattle.flex_model.specs.declared.fault.Fault.{Fault}
-use Rattle.flexplan.specs.Words.{InputPaths, Request, plan}
-use Rattle.flexplan.specs.Input.{IsBuilt, IsNotBuilt, IsScheduled, faults_of_queries, feed, queries, times}
+use Rattle.feed_meaning.specs.Folder.{Folder}
+use Rattle.feed_meaning.specs.Told.{told_folder}
+use Rattle.flexplan.specs.Words.{InputPaths, Request, plan, lint}
+use Rattle.flexplan.specs.Input.{IsBuilt, IsNotBuilt, IsScheduled, LacksZones, faults_of_feed, faults_of_queries, feed, feed_folder, queries, times}
 use Rattle.flexplan.specs.Answers.{Piece, fault_lines, answer, RightText}
 use Rattle.flexplan.specs.Texts.{Texts}
 use Rattle.flexplan.specs.Stops.{stop_of_put}
@@ -24,13 +26,22 @@ AreFaultLines faults pieces = (faults ≢ []) × (pieces ≡ fault_lines faults 
 -- the status and the pieces that are right for `plan`
 abbrev pub IsPlanReply : FileMap → InputPaths → Status → List Piece → Type 0
 IsPlanReply files paths Done pieces = IsBuilt files paths × (pieces ≡ answers_of files paths)
+IsPlanReply files paths FeedFaulty pieces = LacksZones (feed_folder files paths) × AreFaultLines (faults_of_feed (feed_folder files paths)) pieces
 IsPlanReply files paths QueriesFaulty pieces = IsScheduled files paths × AreFaultLines (faults_of_queries files paths) pieces
 IsPlanReply files paths NotBuilt pieces = IsNotBuilt files paths × (pieces ≡ [])
 IsPlanReply files paths _ pieces = ⊥
 
+-- the status and the pieces that are right for `lint`
+abbrev pub IsLintReply : Folder → Status → List Piece → Type 0
+IsLintReply folder Done pieces = LacksZones folder × (faults_of_feed folder ≡ []) × (pieces ≡ [])
+IsLintReply folder FeedFaulty pieces = LacksZones folder × AreFaultLines (faults_of_feed folder) pieces
+IsLintReply folder NotBuilt pieces = (LacksZones folder → ⊥) × (pieces ≡ [])
+IsLintReply folder _ pieces = ⊥
+
 -- the status and the pieces that are right for a request over told files
 abbrev pub IsReply : Request → FileMap → Status → List Piece → Type 0
 IsReply (plan paths) files status pieces = IsPlanReply files paths status pieces
+IsReply (lint folder) files status pieces = IsLintReply (told_folder files folder) status pieces
 
 -- a right text for each of the right pieces
 abbrev pub IsRight : Request → FileMap → Status → List ℕ → Type 0

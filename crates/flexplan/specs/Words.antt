@@ -1,10 +1,10 @@
 -- The words that are accepted, and what each asks for.
 use Rattle.std.specs.Prelude.{ℕ, Bool, false, not, ◌&&◌, ◌==◌, List, [], ◌∷◌, Option, None, Some, if◌then◌else◌, codes, map}
-use Rattle.std.specs.Option.{option_map}
+use Rattle.std.specs.Option.{option_map, option_or}
 use Rattle.std.specs.Str.{bytes_eq}
 use denote.Ref.{Bor}
 use Rattle.flexplan.specs.declared.words.Command.{Command}
-use Rattle.flexplan.specs.declared.words.Command.TheVariants.{Plan}
+use Rattle.flexplan.specs.declared.words.Command.TheVariants.{Plan, Lint}
 use Rattle.flexplan.specs.declared.words.Paths as declared
 
 -- where the input lies
@@ -16,6 +16,7 @@ pub record InputPaths : Type 0 where
 -- what is asked for
 pub data Request : Type 0 where
   plan : InputPaths → Request
+  lint : List ℕ → Request
 
 -- the bytes of each word
 abbrev pub texts : List (Bor (List ℕ)) → List (List ℕ)
@@ -34,9 +35,14 @@ three_paths name (command ∷ feed ∷ times ∷ queries ∷ []) =
     else None
 three_paths name _ = None
 
+-- the words are this command and one plain path
+abbrev pub one_path : List ℕ → List (List ℕ) → Option (List ℕ)
+one_path name (command ∷ path ∷ []) = if bytes_eq command name && is_plain path then Some path else None
+one_path name _ = None
+
 -- what the words ask for, or none where they are of no accepted form
 abbrev pub request_of : List (List ℕ) → Option Request
-request_of words = option_map plan (three_paths (codes "plan") words)
+request_of words = option_or (option_map plan (three_paths (codes "plan") words)) (option_map lint (one_path (codes "lint") words))
 
 abbrev pub paths : declared.Paths → InputPaths
 paths p = record { feed = p.feed.now; times = p.times.now; queries = p.queries.now }
@@ -44,3 +50,4 @@ paths p = record { feed = p.feed.now; times = p.times.now; queries = p.queries.n
 -- what a command asks for
 abbrev pub request : Command → Request
 request (Plan p) = plan (paths p)
+request (Lint folder) = lint folder.now

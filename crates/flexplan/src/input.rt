@@ -10,7 +10,7 @@ ghost use Rattle.flexplan.specs.Words.{InputPaths, paths};
 
 use crate::status::Status;
 use crate::words::Paths;
-use feed_load::{Loaded, load};
+use feed_load::{Loaded, is_plain, load};
 use feed_meaning::{byte_limit, fetch_file};
 use flex_io::{Files, LoadError};
 use flex_model::{Fault, Feed, InputFile, Listed, Query, Times};
@@ -124,6 +124,28 @@ fn fetch_rest<F: Files>(alloc: Global, files: &mut F, input: &Paths<'_>) -> Resu
     Ok(())
 }
 
+// Reads the times folder and the queries of input with this accepted feed.
+fn open_accepted<F: Files>(
+    alloc: Global,
+    files: &mut F,
+    input: &Paths<'_>,
+    feed: Feed,
+) -> Result<Opened, LoadError>
+    requires { IsSoundFeed feed }
+    ensures opened { IfSome (F.told files.old) (λ told. HoldsFeed told (paths input.now) feed → IfOk result (IsOpened told (paths input.now))) }
+    ensures sound { IfOk result IsSoundOpening }
+    ensures told { F.told files.new ≡ F.told files.old }
+    ensures counted { F.faults files.old ≤ F.faults files.new }
+    ensures steady { F.is_steady files.old → F.is_steady files.new × (F.faults files.new ≡ F.faults files.old) }
+    ensures read_fault { IsErrOf result LoadError.ReadFault → HasFailed (F.faults files.old) (F.faults files.new) }
+{
+    if !is_plain(&feed) {
+        fetch_rest(alloc, files, input)?;
+        return Ok(Opened::NotBuilt);
+    }
+    open_times(alloc, files, input, feed)
+}
+
 /// Opens the input of `plan`: fetches the files in order, and stops at the first part of the input that has faults.
 pub fn open_input<F: Files>(
     alloc: Global,
@@ -138,10 +160,8 @@ pub fn open_input<F: Files>(
     ensures read_fault { IsErrOf result LoadError.ReadFault → HasFailed (F.faults files.old) (F.faults files.new) }
 {
     match load(alloc, files, input.feed)? {
-        Loaded::Clean(feed) => open_times(alloc, files, input, feed),
-        Loaded::NotPlain => {
-            fetch_rest(alloc, files, input)?;
-            Ok(Opened::NotBuilt)
-        }
+        Loaded::Clean(feed) => open_accepted(alloc, files, input, feed),
+        Loaded::Faulty(faults) => Ok(Opened::Refused(Status::FeedFaulty, faults)),
+        Loaded::Unbuilt => Ok(Opened::NotBuilt),
     }
 }

@@ -1,7 +1,7 @@
 // The top call and its stages.
 ghost use Rattle.std.specs.Prelude.{◌≡◌, ◌≢◌, ◌↔◌, ◌⊎◌, Option, None, Some, IfSome, IsSome, IsErrOf};
 ghost use Rattle.flex_io.specs.Outside.{Gains, HasFailed};
-ghost use Rattle.flexplan.specs.Words.{plan, paths, request, request_of, texts};
+ghost use Rattle.flexplan.specs.Words.{lint, plan, paths, request, request_of, texts};
 ghost use Rattle.flexplan.specs.Reply.{PrintsRight, IsFinished, status_of, end_of};
 ghost use Rattle.flexplan.specs.ErrorLine.{error_line, IsLineOrNothing};
 
@@ -9,6 +9,7 @@ use crate::answers::{print_answers, print_faults};
 use crate::input::{Opened, open_input};
 use crate::status::{Status, Stop};
 use crate::words::{Command, Paths, command_of};
+use feed_load::{Loaded, load};
 use flex_io::{Files, PutError, Sink};
 use std::alloc::Global;
 
@@ -47,6 +48,30 @@ fn perform_plan<F: Files, O: Sink>(
     }
 }
 
+// Tells the faults of a feed folder.
+fn perform_lint<F: Files, O: Sink>(
+    alloc: Global,
+    folder: &str,
+    files: &mut F,
+    out: &mut O,
+) -> Result<Status, Stop>
+    ensures printed { PrintsRight (lint folder.now) (F.told files.old) (status_of result) (O.contents out.old) (O.contents out.new) }
+    ensures silent { status_of result ≡ Status.ReadFault → O.contents out.new ≡ O.contents out.old }
+    ensures told { F.told files.new ≡ F.told files.old }
+    ensures read_fault { status_of result ≡ Status.ReadFault → HasFailed (F.faults files.old) (F.faults files.new) }
+    ensures write_fault { status_of result ≡ Status.WriteFault → HasFailed (O.faults out.old) (O.faults out.new) }
+    ensures used { status_of result ≢ Status.Usage }
+{
+    match load(alloc, files, folder)? {
+        Loaded::Clean(_) => Ok(Status::Done),
+        Loaded::Faulty(faults) => ended(
+            Status::FeedFaulty,
+            print_faults(alloc, faults.as_slice(), out),
+        ),
+        Loaded::Unbuilt => Ok(Status::NotBuilt),
+    }
+}
+
 // Does what a command asks for.
 fn perform<F: Files, O: Sink>(
     alloc: Global,
@@ -63,6 +88,7 @@ fn perform<F: Files, O: Sink>(
 {
     match command {
         Command::Plan(input) => perform_plan(alloc, input, files, out),
+        Command::Lint(folder) => perform_lint(alloc, folder, files, out),
     }
 }
 

@@ -147,25 +147,44 @@ fn trips_of_other_days_count(rt: HostRuntime) -> Result<(), Fail> {
 }
 
 #[test]
+fn ids_may_have_any_byte(rt: HostRuntime) -> Result<(), Fail> {
+    let alloc = rt.alloc();
+    let records = under(
+        alloc,
+        ROW_HEADER,
+        "T,1,!,08:00:00,08:00:00,,\nT,2,~,08:20:00,08:20:00,,\n",
+    )?;
+    let query = under(
+        alloc,
+        QUERY_HEADER,
+        "q1,!,~,2025-06-04T07:30:00Z,2025-06-03T12:00:00Z,0,60\n",
+    )?;
+    let ended = planned(
+        alloc,
+        &[
+            ("a/stops.txt", "stop_id,stop_lat,stop_lon\n!,50,5\n~,50,6\n"),
+            ("a/stop_times.txt", records.as_str()),
+            ("q", query.as_str()),
+        ],
+    )?;
+    let text = "query q1 1\njourney never 2025-06-04T08:20:00Z 0\n\
+                ride T 20250604 1 2 ! ~ 2025-06-04T08:00:00Z 2025-06-04T08:20:00Z\n";
+    assert_eq!(rt; ended.out.bytes(), text.as_bytes());
+    Ok(())
+}
+
+#[test]
 fn other_input_is_not_planned_for(rt: HostRuntime) -> Result<(), Fail> {
     let alloc = rt.alloc();
     for (path, text) in [
-        ("a/calendar.txt", ""),
         ("a/locations.geojson", ""),
-        ("a/location_groups.txt", ""),
-        ("a/location_group_stops.txt", ""),
-        ("a/booking_rules.txt", ""),
-        ("a/transfers.txt", ""),
-        ("a/frequencies.txt", ""),
-        ("a/stops.txt", "stop_id,stop_lat,stop_lon\nM,50,5\nM,50,6\n"),
-        ("a/trips.txt", "route_id,service_id,trip_id\nX,S,T\n"),
-        (
-            "a/stop_times.txt",
-            "trip_id,stop_sequence,stop_id,arrival_time,departure_time\nT,1,M,08:00:00,08:00:00\nT,2,N,08:20:00,\n",
-        ),
         (
             "a/stop_times.txt",
             "trip_id,stop_sequence,stop_id,arrival_time,departure_time,pickup_type\nT,1,M,08:00:00,08:00:00,2\nT,2,N,08:20:00,08:20:00,\n",
+        ),
+        (
+            "a/stop_times.txt",
+            "trip_id,stop_sequence,stop_id,start_pickup_drop_off_window,end_pickup_drop_off_window\nT,1,M,08:00:00,09:00:00\nT,2,N,08:00:00,09:00:00\n",
         ),
         ("t/zone.txt", "UTC1"),
         ("t/points.txt", ""),
@@ -182,6 +201,96 @@ fn other_input_is_not_planned_for(rt: HostRuntime) -> Result<(), Fail> {
         assert!(rt; ended.out.bytes().is_empty());
         assert!(rt; ended.err.bytes().is_empty());
     }
+    Ok(())
+}
+
+#[test]
+fn more_tables_are_planned_for(rt: HostRuntime) -> Result<(), Fail> {
+    let alloc = rt.alloc();
+    for (path, text) in [
+        ("a/transfers.txt", ""),
+        ("a/frequencies.txt", "\n"),
+        (
+            "a/calendar.txt",
+            "service_id,monday,tuesday,wednesday,thursday,friday,saturday,sunday,start_date,end_date\nS,0,0,1,0,0,0,0,20250601,20250630\n",
+        ),
+        (
+            "a/location_groups.txt",
+            "location_group_id,location_group_name\nG,Both\n",
+        ),
+        (
+            "a/booking_rules.txt",
+            "booking_rule_id,booking_type,prior_notice_duration_min\nB,1,60\n",
+        ),
+    ] {
+        let ended = planned(alloc, &[(path, text)])?;
+        assert_eq!(rt; ended.status, Status::Done);
+        assert_eq!(rt; ended.out.bytes(), ANSWER.as_bytes());
+    }
+    Ok(())
+}
+
+#[test]
+fn untimed_records_are_filled(rt: HostRuntime) -> Result<(), Fail> {
+    let alloc = rt.alloc();
+    let records = under(
+        alloc,
+        ROW_HEADER,
+        "T,4,N,08:10:01,08:10:01,,\nT,3,B,,,,\nT,2,A,,,,\nT,1,M,08:00:00,08:00:00,,\n",
+    )?;
+    let query = under(
+        alloc,
+        QUERY_HEADER,
+        "q1,A,B,2025-06-04T07:30:00Z,2025-06-03T12:00:00Z,0,60\n",
+    )?;
+    let ended = planned(
+        alloc,
+        &[
+            (
+                "a/stops.txt",
+                "stop_id,stop_lat,stop_lon\nM,50,5\nA,50,5\nB,50,5\nN,50,6\n",
+            ),
+            ("a/stop_times.txt", records.as_str()),
+            ("q", query.as_str()),
+        ],
+    )?;
+    let text = "query q1 1\njourney never 2025-06-04T08:06:40Z 0\n\
+                ride T 20250604 2 3 A B 2025-06-04T08:03:20Z 2025-06-04T08:06:40Z\n";
+    assert_eq!(rt; ended.out.bytes(), text.as_bytes());
+    Ok(())
+}
+
+#[test]
+fn faults_of_feeds_are_told(rt: HostRuntime) -> Result<(), Fail> {
+    let alloc = rt.alloc();
+    let trips = ("a/trips.txt", "route_id,service_id,trip_id\nQ,S,T\n");
+    let stops = ("a/stops.txt", "stop_id,stop_lat,stop_lon\nM,91,5\nN,50,6\n");
+    for (others, status, text) in [
+        ([("b", ""), ("b", "")], Status::Done, ""),
+        (
+            [trips, trips],
+            Status::FeedFaulty,
+            "fault trips.txt 2 UNKNOWN_ID\n",
+        ),
+        (
+            [trips, stops],
+            Status::FeedFaulty,
+            "fault stops.txt 2 BAD_COORDINATE\n",
+        ),
+        ([stops, ("a/locations.geojson", "")], Status::NotBuilt, ""),
+    ] {
+        let mut files = files_with(alloc, &others)?;
+        let ended = ran(alloc, &["lint", "a"], &mut files, MemSink::new(alloc));
+        assert_eq!(rt; ended.status, status);
+        assert_eq!(rt; ended.out.bytes(), text.as_bytes());
+        assert!(rt; ended.err.bytes().is_empty());
+    }
+    let ended = planned(alloc, &[trips])?;
+    assert_eq!(rt; ended.status, Status::FeedFaulty);
+    assert_eq!(rt;
+        ended.out.bytes(),
+        b"fault trips.txt 2 UNKNOWN_ID\n".as_slice()
+    );
     Ok(())
 }
 
@@ -210,8 +319,8 @@ fn failures_of_the_outside_are_told(rt: HostRuntime) -> Result<(), Fail> {
     assert_eq!(rt; ended.status, Status::ReadFault);
     assert!(rt; ended.out.bytes().is_empty());
     assert_eq!(rt; ended.err.bytes(), b"flexplan: read fault\n".as_slice());
-    // The last fetch, of the query file, fails where the feed isn't planned for: a read fault comes first.
-    let mut files = files_with(alloc, &[("a/locations.geojson", "")])?;
+    // The last fetch, of the query file, fails where the times aren't planned for: a read fault comes first.
+    let mut files = files_with(alloc, &[("t/points.txt", "")])?;
     files.fail_at(18)?;
     let ended = ran(alloc, &PLAN, &mut files, MemSink::new(alloc));
     assert_eq!(rt; ended.status, Status::ReadFault);
@@ -232,6 +341,8 @@ fn other_words_are_wrong(rt: HostRuntime) -> Result<(), Fail> {
         ["plan", "a", "t"].as_slice(),
         &["plan", "a", "t", "-q"],
         &["plan", "a", "", "q"],
+        &["lint", "-x"],
+        &["lint", "a", "t"],
         &[],
     ] {
         let ended = ran(alloc, words, &mut files, MemSink::new(alloc));

@@ -1,7 +1,7 @@
 // The words of the command line, read by hand: no memory is needed to refuse them.
 ghost use Rattle.std.specs.Prelude.{◌≡◌};
 ghost use Rattle.std.specs.Option.{option_map};
-ghost use Rattle.flexplan.specs.Words.{paths, request, request_of, texts, is_plain, three_paths};
+ghost use Rattle.flexplan.specs.Words.{paths, request, request_of, texts, is_plain, one_path, three_paths};
 
 /// Where the input lies.
 #[derive(Clone, Copy)]
@@ -14,7 +14,10 @@ pub struct Paths<'a> {
 /// What the words ask for.
 #[derive(Clone, Copy)]
 pub enum Command<'a> {
+    /// Answers to the queries of a file, over a feed folder and a times folder.
     Plan(Paths<'a>),
+    /// The faults of a feed folder.
+    Lint(&'a str),
 }
 
 // A word that isn't empty and doesn't begin with a hyphen.
@@ -44,12 +47,25 @@ fn three_paths<'a>(name: &str, words: &[&'a str]) -> Option<Paths<'a>>
     }
 }
 
+// The path of a command with one.
+fn one_path<'a>(name: &str, words: &[&'a str]) -> Option<&'a str>
+    ensures { option_map (λ path. path.now) result ≡ one_path name.now (texts words.now) }
+{
+    match words {
+        [command, path] if *command == name && is_plain(path) => Some(path),
+        _ => None,
+    }
+}
+
 /// The command of the words, or none where they are of no accepted form.
 pub fn command_of<'a>(words: &[&'a str]) -> Option<Command<'a>>
     ensures { option_map request result ≡ request_of (texts words.now) }
 {
     if let Some(paths) = three_paths("plan", words) {
         return Some(Command::Plan(paths));
+    }
+    if let Some(folder) = one_path("lint", words) {
+        return Some(Command::Lint(folder));
     }
     None
 }
