@@ -37,7 +37,7 @@ fn agency_rules(zone: &str, differs: bool) -> [Option<FaultCode>; 2]
 }
 
 /// The faults of the records of agency.txt by themselves.
-pub fn agency_faults(alloc: Global, table: &Table) -> Result<Listed<Fault>, NoMemory>
+pub(crate) fn agency_faults(alloc: Global, table: &Table) -> Result<Listed<Fault>, NoMemory>
     ensures { IfOk result (λ faults. faults ≡ record_faults Files.Agency FeedRules.agency_rules (entries_of table.now)) }
 {
     let agency_timezone = table.column("agency_timezone");

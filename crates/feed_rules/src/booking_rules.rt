@@ -164,42 +164,18 @@ fn notice_rules(b: &BookingRule<'_>) -> [Option<FaultCode>; 7]
 {
     let same_day = is_text(b.kind, "1");
     let earlier_days = is_text(b.kind, "2");
-    let has_last_day = is_given(b.last_day);
-    let has_start_day = is_given(b.start_day);
+    let has_last = is_given(b.last_day);
+    let has_start = is_given(b.start_day);
     let may_start = may_start_on_day(b);
-    let bad_number = FaultCode::BadNumber;
-    let bad_time = FaultCode::BadTime;
+    let number = FaultCode::BadNumber;
+    let time = FaultCode::BadTime;
     [
-        conditional(
-            same_day,
-            same_day,
-            bad_number,
-            b.duration_min,
-            b.least_minutes,
-        ),
-        conditional(false, same_day, bad_number, b.duration_max, b.most_minutes),
-        conditional(
-            earlier_days,
-            earlier_days,
-            bad_number,
-            b.last_day,
-            b.last_days,
-        ),
-        conditional(
-            has_last_day,
-            has_last_day,
-            bad_time,
-            b.last_time,
-            b.last_seconds,
-        ),
-        conditional(false, may_start, bad_number, b.start_day, b.start_days),
-        conditional(
-            has_start_day,
-            has_start_day,
-            bad_time,
-            b.start_time,
-            b.start_seconds,
-        ),
+        conditional(same_day, same_day, number, b.duration_min, b.least_minutes),
+        conditional(false, same_day, number, b.duration_max, b.most_minutes),
+        conditional(earlier_days, earlier_days, number, b.last_day, b.last_days),
+        conditional(has_last, has_last, time, b.last_time, b.last_seconds),
+        conditional(false, may_start, number, b.start_day, b.start_days),
+        conditional(has_start, has_start, time, b.start_time, b.start_seconds),
         rule(FaultCode::FieldForbidden, has_stray_service(b)),
     ]
 }

@@ -38,7 +38,7 @@ fn date_rules(
 }
 
 /// The faults of the records of calendar_dates.txt by themselves.
-pub fn calendar_date_faults(alloc: Global, table: &Table) -> Result<Listed<Fault>, NoMemory>
+pub(crate) fn calendar_date_faults(alloc: Global, table: &Table) -> Result<Listed<Fault>, NoMemory>
     ensures { IfOk result (λ faults. faults ≡ record_faults Files.CalendarDates FeedRules.calendar_date_rules (entries_of table.now)) }
 {
     let service_id = table.column("service_id");

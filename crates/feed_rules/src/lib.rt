@@ -27,11 +27,5 @@ mod stops;
 mod transfers;
 mod trips;
 
-pub use agency::agency_faults;
-pub use calendar_dates::calendar_date_faults;
 pub use feed_faults::faults;
 pub use folder::{FeedBytes, RawFeed};
-pub use routes::route_faults;
-pub use stop_times::stop_time_faults;
-pub use stops::stop_faults;
-pub use trips::trip_faults;

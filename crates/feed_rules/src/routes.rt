@@ -23,7 +23,7 @@ fn route_rules(route: &str, is_repeated: bool) -> [Option<FaultCode>; 2]
 }
 
 /// The faults of the records of routes.txt by themselves.
-pub fn route_faults(alloc: Global, table: &Table) -> Result<Listed<Fault>, NoMemory>
+pub(crate) fn route_faults(alloc: Global, table: &Table) -> Result<Listed<Fault>, NoMemory>
     ensures { IfOk result (λ faults. faults ≡ record_faults Files.Routes FeedRules.route_rules (entries_of table.now)) }
 {
     let route_id = table.column("route_id");

@@ -195,7 +195,7 @@ fn stop_time_rules(s: &StopTime<'_>, is_repeated: bool) -> [Option<FaultCode>; 1
 }
 
 /// The faults of the records of stop_times.txt by themselves.
-pub fn stop_time_faults(alloc: Global, table: &Table) -> Result<Listed<Fault>, NoMemory>
+pub(crate) fn stop_time_faults(alloc: Global, table: &Table) -> Result<Listed<Fault>, NoMemory>
     ensures { IfOk result (λ faults. faults ≡ record_faults Files.StopTimes FeedRules.stop_time_rules (entries_of table.now)) }
 {
     let columns = stop_time_columns(table);

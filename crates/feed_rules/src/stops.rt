@@ -45,7 +45,7 @@ fn stop_rules(
 }
 
 /// The faults of the records of stops.txt by themselves.
-pub fn stop_faults(alloc: Global, table: &Table) -> Result<Listed<Fault>, NoMemory>
+pub(crate) fn stop_faults(alloc: Global, table: &Table) -> Result<Listed<Fault>, NoMemory>
     ensures { IfOk result (λ faults. faults ≡ record_faults Files.Stops FeedRules.stop_rules (entries_of table.now)) }
 {
     let stop_id = table.column("stop_id");

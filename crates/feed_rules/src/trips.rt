@@ -25,7 +25,7 @@ fn trip_rules(trip: &str, route: &str, service: &str, is_repeated: bool) -> [Opt
 }
 
 /// The faults of the records of trips.txt by themselves.
-pub fn trip_faults(alloc: Global, table: &Table) -> Result<Listed<Fault>, NoMemory>
+pub(crate) fn trip_faults(alloc: Global, table: &Table) -> Result<Listed<Fault>, NoMemory>
     ensures { IfOk result (λ faults. faults ≡ record_faults Files.Trips FeedRules.trip_rules (entries_of table.now)) }
 {
     let trip_id = table.column("trip_id");

@@ -1,7 +1,6 @@
 pub mod PrintedAnswers
 mod PrintedLines
 mod PrintedRides
-pub mod NotedIds
 pub mod NamedPlaces
 pub mod QueryMoments
 pub mod QueryRecords

@@ -16,8 +16,8 @@ returns c r read =
     let start = r "prior_notice_start_time" in
     let same_day : c.is_text-same_day.result ≡ is_text (r "booking_type") "1" = c.is_text-same_day.ensures ∙ ap (λ t. is_text t "1") read.kind in
     let earlier_days : c.is_text-earlier_days.result ≡ is_text (r "booking_type") "2" = c.is_text-earlier_days.ensures ∙ ap (λ t. is_text t "2") read.kind in
-    let has_last_day : c.is_given-has_last_day.result ≡ is_given day = c.is_given-has_last_day.ensures ∙ ap is_given read.last_day in
-    let has_start_day : c.is_given-has_start_day.result ≡ is_given start_day = c.is_given-has_start_day.ensures ∙ ap is_given read.start_day in
+    let has_last_day : c.is_given-has_last.result ≡ is_given day = c.is_given-has_last.ensures ∙ ap is_given read.last_day in
+    let has_start_day : c.is_given-has_start.result ≡ is_given start_day = c.is_given-has_start.ensures ∙ ap is_given read.start_day in
     λ i.
     (c.conditional.ensures (count 1000000) least read.duration_min read.least_minutes ∙ ap (λ w. conditional w w BadNumber (count 1000000) least) same_day) i
     ∷ (c.conditional-2.ensures (count 1000000) greatest read.duration_max read.most_minutes ∙ ap (λ w. conditional false w BadNumber (count 1000000) greatest) same_day) i
