@@ -1,5 +1,5 @@
 -- What was printed where a reply ended.
-use Rattle.std.proofs.Common.{◌≡◌, ℕ, List, [], ◌∷◌, map, Option, None, Some, IfSome, Result, Ok, Err, refl, sym, ap, subst, inl, inr, ◌∙◌}
+use Rattle.std.proofs.Common.{◌≡◌, ℕ, ℤ, List, [], ◌∷◌, map, Option, None, Some, IfSome, Result, Ok, Err, refl, sym, ap, subst, inl, inr, ◌∙◌}
 use Rattle.flex_io.specs.Outside.{FileMap, Gains}
 use Rattle.flex_io.specs.declared.error.PutError.{PutError}
 use Rattle.flex_io.specs.declared.error.PutError.TheVariants.{Failed, NoMemory}
@@ -12,7 +12,7 @@ use Rattle.feed_meaning.specs.Told.{told_folder}
 use Rattle.feed_load.specs.Loads.{IsLoaded}
 use Rattle.feed_load.specs.declared.folder.Loaded.TheVariants.{Clean, Faulty}
 use Rattle.query_io.specs.AnswerText.{answer_text}
-use Rattle.service_days.specs.Bases.{table_of, utc_bases}
+use Rattle.service_days.specs.Bases.{table_of}
 use Rattle.flexplan.specs.Answers.{Piece, fault_lines, answer, IsAnswerText, RightText}
 use Rattle.flexplan.specs.Faults.{text_of}
 use Rattle.flexplan.specs.Input.{feed, times}
@@ -30,15 +30,15 @@ use Rattle.flexplan.proofs.Gains.{gains_as, gains_nothing}
 use Rattle.flexplan.proofs.Texts.{completed, print_one}
 
 -- every query has an exact answer, and so a right text
-some_answer : (feed : Feed) (times : Times) (query : Query) → (text : List ℕ) × IsAnswerText feed times query text
-some_answer feed times query =
-    let exact = exact_answer feed times (table_of utc_bases query.depart) query in
+some_answer : (feed : Feed) (times : Times) (bases : List ℤ) (query : Query) → (text : List ℕ) × IsAnswerText feed times bases query text
+some_answer feed times bases query =
+    let exact = exact_answer feed times (table_of bases query.depart) query in
     (answer_text feed times query exact.0, (exact.0, exact.1, refl))
 
 -- each piece has a right text
 right_text : (piece : Piece) → (text : List ℕ) × RightText piece text
 right_text (fault_lines faults) = (text_of faults, refl)
-right_text (answer feed times query) = some_answer feed times query
+right_text (answer feed times bases query) = some_answer feed times bases query
 
 right_printed : (request : Request) (files : FileMap) (s : Status) (bytes : List ℕ) → IsFinished s → IsRight request files s bytes → MayHavePrinted request files s bytes
 right_printed request files status.Done bytes _ right = right
@@ -89,7 +89,7 @@ accepted request told pieces before after printed end known end_is gains =
     if_told told _ _ known (λ files reply. gains_as before after _ _ gains (λ bytes prints.
     subst (λ e. MayHavePrinted request files (status_of e) bytes) (sym end_is) (accepted_printed request files pieces printed bytes reply prints)))
 
--- the feed or the query file is refused
+-- the feed, the times folder or the query file is refused
 refused_as : (files : FileMap) (paths : InputPaths) (s : Status) (faults : List Fault) → IsRefused files paths s faults
     → IsPlanReply files paths s (fault_lines faults ∷ [])
 refused_as files paths status.QueriesFaulty faults is =
@@ -98,7 +98,9 @@ refused_as files paths status.Done faults none = absurd none
 refused_as files paths status.Usage faults none = absurd none
 refused_as files paths status.FeedFaulty faults is =
     (is.0, ((λ none. is.1 (is.2 ∙ none)), ap (λ fs. fault_lines fs ∷ []) is.2))
-refused_as files paths status.TimesFaulty faults none = absurd none
+refused_as files paths status.TimesFaulty faults is =
+    let its = is.2 in
+    (is.0, (its.0, its.1, ((λ none. is.1 (its.2 ∙ none)), ap (λ fs. fault_lines fs ∷ []) its.2)))
 refused_as files paths status.CertRefused faults none = absurd none
 refused_as files paths status.ReadFault faults none = absurd none
 refused_as files paths status.WriteFault faults none = absurd none
@@ -109,13 +111,14 @@ pub plan_refused : (told : Option FileMap) (paths : InputPaths) (s : Status) (fa
 plan_refused told paths s faults is = if_told told _ _ is (λ files refused. refused_as files paths s faults refused)
 
 pub plan_accepted : (told : Option FileMap) (paths : InputPaths) (input : declared.Input) → IfSome told (λ files. IsOpened files paths (Accepted input))
-    → IfSome told (λ files. IsReply (plan paths) files status.Done (map (answer input.feed input.times) input.queries))
+    → IfSome told (λ files. IsReply (plan paths) files status.Done (map (answer input.feed input.times input.zone) input.queries))
 plan_accepted told paths input is =
     if_told told _ _ is (λ files held. (
+      input.zone,
       held.built,
-      ap (λ f. map (answer f input.times) input.queries) held.feed
-          ∙ ap (λ t. map (answer (feed files paths) t) input.queries) held.times
-          ∙ ap (map (answer (feed files paths) (times files paths))) held.queries,
+      ap (λ f. map (answer f input.times input.zone) input.queries) held.feed
+          ∙ ap (λ t. map (answer (feed files paths) t input.zone) input.queries) held.times
+          ∙ ap (map (answer (feed files paths) (times files paths) input.zone)) held.queries,
     ))
 
 -- nothing was printed of input that isn't planned for
@@ -127,7 +130,7 @@ plan_not_built told paths before is =
 pub refusal_finishes : (s : Status) (faults : List Fault) → IsSoundOpening (Refused s faults) → IsFinished s
 refusal_finishes status.QueriesFaulty faults _ = tt
 refusal_finishes status.FeedFaulty faults _ = tt
-refusal_finishes status.TimesFaulty faults none = absurd none
+refusal_finishes status.TimesFaulty faults _ = tt
 refusal_finishes status.CertRefused faults none = absurd none
 refusal_finishes status.Done faults none = absurd none
 refusal_finishes status.Usage faults none = absurd none

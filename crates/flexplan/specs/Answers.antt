@@ -1,5 +1,5 @@
 -- What right texts are. Which of several is given is free.
-use Rattle.std.specs.Prelude.{◌≡◌, ℕ, List}
+use Rattle.std.specs.Prelude.{◌≡◌, ℕ, ℤ, List}
 use Rattle.flex_model.specs.Answer.{IsExactAnswer}
 use Rattle.flex_model.specs.declared.answer.Answer.{Answer}
 use Rattle.flex_model.specs.declared.fault.Fault.{Fault}
@@ -7,20 +7,20 @@ use Rattle.flex_model.specs.declared.feed.Feed.{Feed}
 use Rattle.flex_model.specs.declared.query.Query.{Query}
 use Rattle.flex_model.specs.declared.times.Times.{Times}
 use Rattle.query_io.specs.AnswerText.{answer_text}
-use Rattle.service_days.specs.Bases.{table_of, utc_bases}
+use Rattle.service_days.specs.Bases.{table_of}
 use Rattle.flexplan.specs.Faults.{text_of}
 
 -- what one put prints
 pub data Piece : Type 0 where
   fault_lines : List Fault → Piece
-  answer : Feed → Times → Query → Piece
+  answer : Feed → Times → List ℤ → Query → Piece
 
--- the text of an exact answer to the query, in UTC
-abbrev pub IsAnswerText : Feed → Times → Query → List ℕ → Type 0
-IsAnswerText feed times query text =
-    (answers : List Answer) × IsExactAnswer feed times (table_of utc_bases query.depart) query answers
+-- the text of an exact answer to the query, in the zone whose days begin at these bases
+abbrev pub IsAnswerText : Feed → Times → List ℤ → Query → List ℕ → Type 0
+IsAnswerText feed times bases query text =
+    (answers : List Answer) × IsExactAnswer feed times (table_of bases query.depart) query answers
     × (text ≡ answer_text feed times query answers)
 
 abbrev pub RightText : Piece → List ℕ → Type 0
 RightText (fault_lines faults) text = text ≡ text_of faults
-RightText (answer feed times query) text = IsAnswerText feed times query text
+RightText (answer feed times bases query) text = IsAnswerText feed times bases query text

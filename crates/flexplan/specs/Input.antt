@@ -1,8 +1,8 @@
 -- The input that told files give, and which of it is planned for by now.
-use Rattle.std.specs.Prelude.{◌≡◌, ◌⊎◌, List, [], All}
+use Rattle.std.specs.Prelude.{◌≡◌, ◌⊎◌, ℤ, List, [], All, Option, Some}
 use Rattle.flex_io.specs.Outside.{FileMap}
 use Rattle.flex_model.specs.declared.fault.Fault.{Fault}
-use Rattle.flex_model.specs.declared.fault.InputFile.TheVariants.{Locations, Queries}
+use Rattle.flex_model.specs.declared.fault.InputFile.TheVariants.{Locations, Queries, ZoneText, ZoneTzif}
 use Rattle.flex_model.specs.declared.fault.RawFile.{RawFile}
 use Rattle.flex_model.specs.declared.fault.RawFile.TheVariants.{Absent}
 use Rattle.flex_model.specs.declared.feed.Feed.{Feed}
@@ -13,16 +13,23 @@ use Rattle.feed_meaning.specs.FeedFaults.{feed_faults}
 use Rattle.feed_meaning.specs.FeedValue.{feed_of}
 use Rattle.feed_meaning.specs.Folder.{Folder}
 use Rattle.feed_meaning.specs.QueryFaults.{query_faults}
+use Rattle.feed_meaning.specs.TimesFaults.{times_faults}
 use Rattle.feed_meaning.specs.TimesValue.{queries_of, times_of}
 use Rattle.feed_meaning.specs.Files.{byte_limit}
 use Rattle.feed_meaning.specs.Told.{told_file, told_folder}
 use Rattle.feed_load.specs.Loads.{no_geo}
-use Rattle.place_times.specs.UtcFolder.{IsUtcFolder}
+use Rattle.place_times.specs.Loads.{IsZoneFound, judged_by}
 use Rattle.flexplan.specs.Words.{InputPaths}
 
 -- Zones aren't read yet: the feed has none.
 abbrev pub LacksZones : Folder → Type 0
 LacksZones folder = folder Locations ≡ Absent
+
+-- The form that is planned for: scheduled trips without bookings, without walks, and queries without transfers.
+pub record IsPlannedFor (feed : Feed) (times : Times) (queries : List Query) : Type 0 where
+  pub plain : IsPlainFeed feed
+  pub walks : times.walks ≡ []
+  pub direct : All (λ query. query.transfers ≡ 0) queries
 
 -- the fault list of a feed folder without zones
 abbrev pub faults_of_feed : Folder → List Fault
@@ -48,33 +55,38 @@ module _ (files : FileMap) (paths : InputPaths) where
   abbrev pub queries : List Query
   queries = queries_of feed times query_file
 
+  -- The zone of the times folder as its reader finds it: the begins of its days, or none where the zone is bad or missing.
+  abbrev pub FindsZone : Option (List ℤ) → Type 0
+  FindsZone zone = IsZoneFound (times_folder ZoneText) (times_folder ZoneTzif) zone
+
+  -- the fault list of the times folder where this zone is found in it
+  abbrev pub faults_of_times : Option (List ℤ) → List Fault
+  faults_of_times zone = times_faults (judged_by zone) feed times_folder
+
   abbrev pub faults_of_queries : List Fault
   faults_of_queries = query_faults feed times query_file
 
-  -- the feed has no zones and no faults
-  pub record IsAccepted : Type 0 where
+  -- the feed has no zones of places and no faults
+  pub record IsFeedAccepted : Type 0 where
     pub zones : LacksZones feed_folder
     pub none : faults_of_feed feed_folder ≡ []
 
-  -- a feed of scheduled trips without bookings, in UTC, without points, direct times and walks
-  pub record IsScheduled : Type 0 where
-    pub accepted : IsAccepted
-    pub plain : IsPlainFeed feed
-    pub utc : IsUtcFolder times_folder
+  -- so have the times, and the days of their time zone begin at these bases
+  pub record AreTimesAccepted (bases : List ℤ) : Type 0 where
+    pub accepted : IsFeedAccepted
+    pub zone : FindsZone (Some bases)
+    pub none : faults_of_times (Some bases) ≡ []
 
-  -- the form of input that is planned for: scheduled trips in UTC, and queries without transfers
-  pub record IsBuilt : Type 0 where
-    pub scheduled : IsScheduled
-    pub accepted : faults_of_queries ≡ []
-    pub direct : All (λ query. query.transfers ≡ 0) queries
+  -- and so have the queries
+  pub record IsAccepted (bases : List ℤ) : Type 0 where
+    pub accepted : AreTimesAccepted bases
+    pub none : faults_of_queries ≡ []
 
-  -- an accepted feed of another form, or in another zone or with points or times of one's own
-  abbrev pub IsUnscheduled : Type 0
-  IsUnscheduled = IsAccepted × (IsScheduled → ⊥)
+  -- accepted input of the form that is planned for
+  pub record IsBuilt (bases : List ℤ) : Type 0 where
+    pub accepted : IsAccepted bases
+    pub planned : IsPlannedFor feed times queries
 
-  -- input of another form, or scheduled trips with queries that allow transfers
+  -- a feed with zones of places, or accepted input of another form
   abbrev pub IsNotBuilt : Type 0
-  IsNotBuilt =
-      (LacksZones feed_folder → ⊥)
-      ⊎ IsUnscheduled
-      ⊎ (IsScheduled × (faults_of_queries ≡ []) × (All (λ query. query.transfers ≡ 0) queries → ⊥))
+  IsNotBuilt = (LacksZones feed_folder → ⊥) ⊎ ((bases : List ℤ) × IsAccepted bases × (IsPlannedFor feed times queries → ⊥))

@@ -1,12 +1,12 @@
 -- What a run may answer and print.
-use Rattle.std.specs.Prelude.{◌≡◌, ◌≢◌, ◌⊎◌, ℕ, List, [], ◌∷◌, map, take, Option, IfSome, Result, Ok, Err}
+use Rattle.std.specs.Prelude.{◌≡◌, ◌≢◌, ◌⊎◌, ℕ, ℤ, List, [], ◌∷◌, map, take, Option, IfSome, Result, Ok, Err}
 use Rattle.flex_io.specs.Outside.{FileMap, Gains, IsBeginning}
 use Rattle.flex_io.specs.declared.error.PutError.{PutError}
 use Rattle.flex_model.specs.declared.fault.Fault.{Fault}
 use Rattle.feed_meaning.specs.Folder.{Folder}
 use Rattle.feed_meaning.specs.Told.{told_folder}
 use Rattle.flexplan.specs.Words.{InputPaths, Request, plan, lint}
-use Rattle.flexplan.specs.Input.{IsBuilt, IsNotBuilt, IsScheduled, LacksZones, faults_of_feed, faults_of_queries, feed, feed_folder, queries, times}
+use Rattle.flexplan.specs.Input.{AreTimesAccepted, FindsZone, IsBuilt, IsFeedAccepted, IsNotBuilt, LacksZones, faults_of_feed, faults_of_queries, faults_of_times, feed, feed_folder, queries, times}
 use Rattle.flexplan.specs.Answers.{Piece, fault_lines, answer, RightText}
 use Rattle.flexplan.specs.Texts.{Texts}
 use Rattle.flexplan.specs.Stops.{stop_of_put}
@@ -15,9 +15,9 @@ use Rattle.flexplan.specs.declared.status.Status.TheVariants.{Done, Usage, FeedF
 use Rattle.flexplan.specs.declared.status.Stop.{Stop}
 use Rattle.flexplan.specs.declared.status.Stop.TheVariants as stop
 
--- an exact answer to each query of the input
-abbrev pub answers_of : FileMap → InputPaths → List Piece
-answers_of files paths = map (answer (feed files paths) (times files paths)) (queries files paths)
+-- an exact answer to each query of the input, in the zone with these bases
+abbrev pub answers_of : FileMap → InputPaths → List ℤ → List Piece
+answers_of files paths bases = map (answer (feed files paths) (times files paths) bases) (queries files paths)
 
 -- a faulty input's one piece
 abbrev pub AreFaultLines : List Fault → List Piece → Type 0
@@ -25,9 +25,12 @@ AreFaultLines faults pieces = (faults ≢ []) × (pieces ≡ fault_lines faults 
 
 -- the status and the pieces that are right for `plan`
 abbrev pub IsPlanReply : FileMap → InputPaths → Status → List Piece → Type 0
-IsPlanReply files paths Done pieces = IsBuilt files paths × (pieces ≡ answers_of files paths)
+IsPlanReply files paths Done pieces = (bases : List ℤ) × IsBuilt files paths bases × (pieces ≡ answers_of files paths bases)
 IsPlanReply files paths FeedFaulty pieces = LacksZones (feed_folder files paths) × AreFaultLines (faults_of_feed (feed_folder files paths)) pieces
-IsPlanReply files paths QueriesFaulty pieces = IsScheduled files paths × AreFaultLines (faults_of_queries files paths) pieces
+IsPlanReply files paths TimesFaulty pieces =
+    IsFeedAccepted files paths × ((zone : Option (List ℤ)) × FindsZone files paths zone × AreFaultLines (faults_of_times files paths zone) pieces)
+IsPlanReply files paths QueriesFaulty pieces =
+    ((bases : List ℤ) × AreTimesAccepted files paths bases) × AreFaultLines (faults_of_queries files paths) pieces
 IsPlanReply files paths NotBuilt pieces = IsNotBuilt files paths × (pieces ≡ [])
 IsPlanReply files paths _ pieces = ⊥
 

@@ -30,7 +30,7 @@ fn answer(alloc: Global, input: &Input, query: &Query) -> Result<Text, NoMemory>
     requires input { IsSoundInput input.now }
     requires query { IsSoundQuery input.now.feed input.now.times query.now }
     requires transfers { query.now.transfers ≡ 0 }
-    ensures { IfOk result (IsAnswerText input.now.feed input.now.times query.entry.now) }
+    ensures { IfOk result (IsAnswerText input.now.feed input.now.times input.now.zone query.entry.now) }
 {
     let days = day_table(alloc, &input.zone, query.depart)?;
     let answers = direct_answers(alloc, &input.feed, &input.times, &days, query)?;
@@ -48,7 +48,7 @@ fn print_answer<O: Sink>(
     requires input { IsSoundInput input.now }
     requires query { IsSoundQuery input.now.feed input.now.times query.now }
     requires transfers { query.now.transfers ≡ 0 }
-    ensures printed { Gains (O.contents out.old) (O.contents out.new) (Prints (IsAnswerText input.now.feed input.now.times) query.entry.now result) }
+    ensures printed { Gains (O.contents out.old) (O.contents out.new) (Prints (IsAnswerText input.now.feed input.now.times input.now.zone) query.entry.now result) }
     ensures counted { O.faults out.old ≤ O.faults out.new }
     ensures write_fault { IsErrOf result PutError.Failed → HasFailed (O.faults out.old) (O.faults out.new) }
 {
@@ -59,7 +59,7 @@ fn print_answer<O: Sink>(
 /// Prints an exact answer to each query of the input, in order.
 pub fn print_answers<O: Sink>(alloc: Global, input: &Input, out: &mut O) -> Result<(), PutError>
     requires { IsSoundInput input.now }
-    ensures printed { Gains (O.contents out.old) (O.contents out.new) (PrintsAll (IsAnswerText input.now.feed input.now.times) input.now.queries result) }
+    ensures printed { Gains (O.contents out.old) (O.contents out.new) (PrintsAll (IsAnswerText input.now.feed input.now.times input.now.zone) input.now.queries result) }
     ensures counted { O.faults out.old ≤ O.faults out.new }
     ensures write_fault { IsErrOf result PutError.Failed → HasFailed (O.faults out.old) (O.faults out.new) }
 {

@@ -1,10 +1,9 @@
 // The input of `plan`: its files, fetched in order and read.
-ghost use Rattle.std.specs.Prelude.{◌≡◌, ◌≤◌, ◌↔◌, [], All, IfOk, IfSome, IsErrOf, IsTrue};
+ghost use Rattle.std.specs.Prelude.{◌≡◌, ◌≤◌, ◌↔◌, All, IfOk, IfSome, IsErrOf, IsTrue};
 ghost use Rattle.flex_io.specs.Outside.{HasFailed};
 ghost use Rattle.flex_model.specs.SoundFeed.{IsSoundFeed};
 ghost use Rattle.flex_model.specs.SoundTimes.{AreSoundTimes};
-ghost use Rattle.flex_model.specs.PlainFeed.{IsPlainFeed};
-ghost use Rattle.service_days.specs.Bases.{utc_bases};
+ghost use Rattle.flexplan.specs.Input.{IsPlannedFor};
 ghost use Rattle.flexplan.specs.Opened.{HoldsFeed, HoldsTimes, IsOpened, IsSoundOpening};
 ghost use Rattle.flexplan.specs.Words.{InputPaths, paths};
 
@@ -14,7 +13,7 @@ use feed_load::{Loaded, is_plain, load};
 use feed_meaning::{byte_limit, fetch_file};
 use flex_io::{Files, LoadError};
 use flex_model::{Fault, Feed, InputFile, Listed, Query, Times};
-use place_times::{LoadedTimes, fetch_times, load_times};
+use place_times::{LoadedTimes, load_times};
 use query_io::{ReadQueries, read_queries};
 use service_days::ZoneValue;
 use std::alloc::Global;
@@ -46,7 +45,14 @@ fn are_direct(queries: &[Query]) -> bool
     queries.iter().all(|query| query.transfers == 0)
 }
 
-// Reads the queries of input whose feed and times are read.
+// Whether accepted input is of the form that is planned for.
+fn is_planned_for(feed: &Feed, times: &Times, queries: &Listed<Query>) -> bool
+    ensures { IsTrue result ↔ IsPlannedFor feed.now times.now queries.now }
+{
+    is_plain(feed) && times.walks.as_slice().is_empty() && are_direct(queries.as_slice())
+}
+
+// Reads the queries of input whose feed and times are accepted.
 fn open_queries<F: Files>(
     alloc: Global,
     files: &mut F,
@@ -56,11 +62,8 @@ fn open_queries<F: Files>(
     zone: ZoneValue,
 ) -> Result<Opened, LoadError>
     requires feed { IsSoundFeed feed }
-    requires plain { IsPlainFeed feed }
     requires times { AreSoundTimes feed times }
-    requires walks { times.walks ≡ [] }
-    requires zone { zone ≡ utc_bases }
-    ensures opened { IfSome (F.told files.old) (λ told. (paths : InputPaths) → paths.queries ≡ path.now → HoldsTimes told paths feed times → IfOk result (IsOpened told paths)) }
+    ensures opened { IfSome (F.told files.old) (λ told. (paths : InputPaths) → paths.queries ≡ path.now → HoldsTimes told paths feed times zone → IfOk result (IsOpened told paths)) }
     ensures sound { IfOk result IsSoundOpening }
     ensures told { F.told files.new ≡ F.told files.old }
     ensures counted { F.faults files.old ≤ F.faults files.new }
@@ -71,7 +74,7 @@ fn open_queries<F: Files>(
     match read_queries(alloc, &raw, &feed, &times)? {
         ReadQueries::Faulty(faults) => Ok(Opened::Refused(Status::QueriesFaulty, faults)),
         ReadQueries::Clean(queries) => {
-            if !are_direct(queries.as_slice()) {
+            if !is_planned_for(&feed, &times, &queries) {
                 return Ok(Opened::NotBuilt);
             }
             Ok(Opened::Accepted(Input {
@@ -84,48 +87,8 @@ fn open_queries<F: Files>(
     }
 }
 
-// Reads the times folder and the queries of input whose feed is read.
+// Reads the times folder and the queries of input whose feed is accepted.
 fn open_times<F: Files>(
-    alloc: Global,
-    files: &mut F,
-    input: &Paths<'_>,
-    feed: Feed,
-) -> Result<Opened, LoadError>
-    requires sound { IsSoundFeed feed }
-    requires plain { IsPlainFeed feed }
-    ensures opened { IfSome (F.told files.old) (λ told. HoldsFeed told (paths input.now) feed → IfOk result (IsOpened told (paths input.now))) }
-    ensures sound { IfOk result IsSoundOpening }
-    ensures told { F.told files.new ≡ F.told files.old }
-    ensures counted { F.faults files.old ≤ F.faults files.new }
-    ensures steady { F.is_steady files.old → F.is_steady files.new × (F.faults files.new ≡ F.faults files.old) }
-    ensures read_fault { IsErrOf result LoadError.ReadFault → HasFailed (F.faults files.old) (F.faults files.new) }
-{
-    match load_times(alloc, files, input.times, &feed)? {
-        LoadedTimes::Clean(times, zone) => {
-            open_queries(alloc, files, input.queries, feed, times, zone)
-        }
-        LoadedTimes::NotUtc => {
-            fetch_file(alloc, files, input.queries, byte_limit(InputFile::Queries))?;
-            Ok(Opened::NotBuilt)
-        }
-    }
-}
-
-// Fetches the files of the times folder and the query file of input whose feed isn't planned for: a failed fetch comes
-// before that answer.
-fn fetch_rest<F: Files>(alloc: Global, files: &mut F, input: &Paths<'_>) -> Result<(), LoadError>
-    ensures told { F.told files.new ≡ F.told files.old }
-    ensures counted { F.faults files.old ≤ F.faults files.new }
-    ensures steady { F.is_steady files.old → F.is_steady files.new × (F.faults files.new ≡ F.faults files.old) }
-    ensures read_fault { IsErrOf result LoadError.ReadFault → HasFailed (F.faults files.old) (F.faults files.new) }
-{
-    fetch_times(alloc, files, input.times)?;
-    fetch_file(alloc, files, input.queries, byte_limit(InputFile::Queries))?;
-    Ok(())
-}
-
-// Reads the times folder and the queries of input with this accepted feed.
-fn open_accepted<F: Files>(
     alloc: Global,
     files: &mut F,
     input: &Paths<'_>,
@@ -139,11 +102,12 @@ fn open_accepted<F: Files>(
     ensures steady { F.is_steady files.old → F.is_steady files.new × (F.faults files.new ≡ F.faults files.old) }
     ensures read_fault { IsErrOf result LoadError.ReadFault → HasFailed (F.faults files.old) (F.faults files.new) }
 {
-    if !is_plain(&feed) {
-        fetch_rest(alloc, files, input)?;
-        return Ok(Opened::NotBuilt);
+    match load_times(alloc, files, input.times, &feed)? {
+        LoadedTimes::Clean(times, zone) => {
+            open_queries(alloc, files, input.queries, feed, times, zone)
+        }
+        LoadedTimes::Faulty(faults) => Ok(Opened::Refused(Status::TimesFaulty, faults)),
     }
-    open_times(alloc, files, input, feed)
 }
 
 /// Opens the input of `plan`: fetches the files in order, and stops at the first part of the input that has faults.
@@ -160,7 +124,7 @@ pub fn open_input<F: Files>(
     ensures read_fault { IsErrOf result LoadError.ReadFault → HasFailed (F.faults files.old) (F.faults files.new) }
 {
     match load(alloc, files, input.feed)? {
-        Loaded::Clean(feed) => open_accepted(alloc, files, input, feed),
+        Loaded::Clean(feed) => open_times(alloc, files, input, feed),
         Loaded::Faulty(faults) => Ok(Opened::Refused(Status::FeedFaulty, faults)),
         Loaded::Unbuilt => Ok(Opened::NotBuilt),
     }

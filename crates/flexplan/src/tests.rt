@@ -48,16 +48,23 @@ fn ran(alloc: Global, words: &[&str], files: &mut MemFiles, mut out: MemSink) ->
     Ended { status, out, err }
 }
 
-// The files of the plain feed, with others in place of some or beside them.
-fn files_with(alloc: Global, others: &[(&str, &str)]) -> Result<MemFiles, Fail> {
+// The files of the plain feed but for one, with others in place of some or beside them.
+fn files_but(alloc: Global, without: &str, others: &[(&str, &str)]) -> Result<MemFiles, Fail> {
     let mut files = MemFiles::new(alloc);
     for (path, text) in FILES.as_slice() {
-        files.add(path, text.as_bytes())?;
+        if *path != without {
+            files.add(path, text.as_bytes())?;
+        }
     }
     for (path, text) in others {
         files.add(path, text.as_bytes())?;
     }
     Ok(files)
+}
+
+// The files of the plain feed, with others in place of some or beside them.
+fn files_with(alloc: Global, others: &[(&str, &str)]) -> Result<MemFiles, Fail> {
+    files_but(alloc, "", others)
 }
 
 fn planned(alloc: Global, others: &[(&str, &str)]) -> Result<Ended, Fail> {
@@ -186,10 +193,7 @@ fn other_input_is_not_planned_for(rt: HostRuntime) -> Result<(), Fail> {
             "a/stop_times.txt",
             "trip_id,stop_sequence,stop_id,start_pickup_drop_off_window,end_pickup_drop_off_window\nT,1,M,08:00:00,09:00:00\nT,2,N,08:00:00,09:00:00\n",
         ),
-        ("t/zone.txt", "UTC1"),
-        ("t/points.txt", ""),
-        ("t/direct.txt", ""),
-        ("t/walks.txt", ""),
+        ("t/walks.txt", "from_id,to_id,seconds\nM,N,600\n"),
         (
             "q",
             "query_id,origin,destination,depart,now,transfers,horizon\n\
@@ -222,6 +226,10 @@ fn more_tables_are_planned_for(rt: HostRuntime) -> Result<(), Fail> {
             "a/booking_rules.txt",
             "booking_rule_id,booking_type,prior_notice_duration_min\nB,1,60\n",
         ),
+        ("t/points.txt", "point_id,point_lat,point_lon\nP,50,5\n"),
+        ("t/direct.txt", "from_id,to_id,seconds\nM,N,600\n"),
+        ("t/walks.txt", "from_id,to_id,seconds\n"),
+        ("t/zone.tzif", "TZif"),
     ] {
         let ended = planned(alloc, &[(path, text)])?;
         assert_eq!(rt; ended.status, Status::Done);
@@ -294,19 +302,132 @@ fn faults_of_feeds_are_told(rt: HostRuntime) -> Result<(), Fail> {
     Ok(())
 }
 
+// The clocks of New York go forward on 2025-03-09 and back on 2025-11-02.
 #[test]
-fn faulty_queries_are_told(rt: HostRuntime) -> Result<(), Fail> {
+fn days_begin_in_the_zone_of_the_times(rt: HostRuntime) -> Result<(), Fail> {
     let alloc = rt.alloc();
     let queries = under(
         alloc,
         QUERY_HEADER,
-        "q1,M,X,2025-06-04T07:30:00Z,2025-06-03T12:00:00Z,8,0\n",
+        "q1,M,N,2025-06-04T07:30:00Z,2025-06-03T12:00:00Z,0,300\n\
+         q2,M,N,2025-03-09T06:00:00Z,2025-03-08T12:00:00Z,0,600\n\
+         q3,M,N,2025-11-02T06:00:00Z,2025-11-01T12:00:00Z,0,600\n",
     )?;
-    let ended = planned(alloc, &[("q", queries.as_str())])?;
-    assert_eq!(rt; ended.status, Status::QueriesFaulty);
-    let text =
-        "fault queries 2 UNKNOWN_ID\nfault queries 2 BAD_NUMBER\nfault queries 2 BAD_NUMBER\n";
+    let ended = planned(
+        alloc,
+        &[
+            ("t/zone.txt", "EST5EDT,M3.2.0,M11.1.0\r\n"),
+            (
+                "a/calendar_dates.txt",
+                "service_id,date,exception_type\nS,20250604,1\nS,20250309,1\nS,20251102,1\n",
+            ),
+            ("q", queries.as_str()),
+        ],
+    )?;
+    let text = "query q1 1\njourney never 2025-06-04T12:20:00Z 0\n\
+                ride T 20250604 1 2 M N 2025-06-04T12:00:00Z 2025-06-04T12:20:00Z\n\
+                query q2 1\njourney never 2025-03-09T12:20:00Z 0\n\
+                ride T 20250309 1 2 M N 2025-03-09T12:00:00Z 2025-03-09T12:20:00Z\n\
+                query q3 1\njourney never 2025-11-02T13:20:00Z 0\n\
+                ride T 20251102 1 2 M N 2025-11-02T13:00:00Z 2025-11-02T13:20:00Z\n";
+    assert_eq!(rt; ended.status, Status::Done);
     assert_eq!(rt; ended.out.bytes(), text.as_bytes());
+    Ok(())
+}
+
+#[test]
+fn points_without_walks_reach_nothing(rt: HostRuntime) -> Result<(), Fail> {
+    let alloc = rt.alloc();
+    let query = under(
+        alloc,
+        QUERY_HEADER,
+        "q1,P,N,2025-06-04T07:30:00Z,2025-06-03T12:00:00Z,0,60\n",
+    )?;
+    let ended = planned(
+        alloc,
+        &[
+            ("t/points.txt", "point_id,point_lat,point_lon\nP,50,5\n"),
+            ("q", query.as_str()),
+        ],
+    )?;
+    assert_eq!(rt; ended.status, Status::Done);
+    assert_eq!(rt; ended.out.bytes(), b"query q1 0\n".as_slice());
+    Ok(())
+}
+
+#[test]
+fn faulty_times_are_told(rt: HostRuntime) -> Result<(), Fail> {
+    let alloc = rt.alloc();
+    let points = (
+        "t/points.txt",
+        "point_id,point_lat,point_lon\nP,50.0,5.0\nM,50.0,5.0\n",
+    );
+    let booked = (
+        "a/stop_times.txt",
+        "trip_id,stop_sequence,stop_id,arrival_time,departure_time,pickup_type\nT,1,M,08:00:00,08:00:00,2\nT,2,N,08:20:00,08:20:00,\n",
+    );
+    for (without, others, text) in [
+        (
+            "",
+            [("t/zone.txt", "!"), ("t/zone.tzif", "!")],
+            "fault zone.txt 0 BAD_ZONE\n",
+        ),
+        (
+            "t/zone.txt",
+            [("t/zone.tzif", "TZif"), ("b", "")],
+            "fault zone.tzif 0 BAD_ZONE\n",
+        ),
+        (
+            "t/zone.txt",
+            [("b", ""), ("b", "")],
+            "fault zone.txt 0 MISSING_FILE\n",
+        ),
+        (
+            "",
+            [points, ("t/direct.txt", "from_id,to_id,seconds\nP,K,600\n")],
+            "fault points.txt 3 SHARED_ID\nfault direct.txt 2 UNKNOWN_ID\n",
+        ),
+        // Neither the queries, nor of which form the feed is, come before the times.
+        (
+            "q",
+            [booked, ("t/zone.txt", "")],
+            "fault zone.txt 0 BAD_ZONE\n",
+        ),
+    ] {
+        let mut files = files_but(alloc, without, &others)?;
+        let ended = ran(alloc, &PLAN, &mut files, MemSink::new(alloc));
+        assert_eq!(rt; ended.status, Status::TimesFaulty);
+        assert_eq!(rt; ended.out.bytes(), text.as_bytes());
+        assert!(rt; ended.err.bytes().is_empty());
+    }
+    Ok(())
+}
+
+#[test]
+fn faulty_queries_are_told(rt: HostRuntime) -> Result<(), Fail> {
+    let alloc = rt.alloc();
+    for (rows, text) in [
+        (
+            "q1,M,N,2025-06-04T07:30:00Z,2025-06-03T12:00:00Z,8,0\n",
+            "fault queries 2 BAD_NUMBER\nfault queries 2 BAD_NUMBER\n",
+        ),
+        (
+            "q1,M,X,2025-06-04T07:30:00Z,2025-06-03T12:00:00Z,7,2880\n",
+            "fault queries 2 UNKNOWN_ID\n",
+        ),
+    ] {
+        let queries = under(alloc, QUERY_HEADER, rows)?;
+        let ended = planned(alloc, &[("q", queries.as_str())])?;
+        assert_eq!(rt; ended.status, Status::QueriesFaulty);
+        assert_eq!(rt; ended.out.bytes(), text.as_bytes());
+    }
+    let mut files = files_but(alloc, "q", &[])?;
+    let ended = ran(alloc, &PLAN, &mut files, MemSink::new(alloc));
+    assert_eq!(rt; ended.status, Status::QueriesFaulty);
+    assert_eq!(rt;
+        ended.out.bytes(),
+        b"fault queries 0 MISSING_FILE\n".as_slice()
+    );
     Ok(())
 }
 
@@ -319,8 +440,9 @@ fn failures_of_the_outside_are_told(rt: HostRuntime) -> Result<(), Fail> {
     assert_eq!(rt; ended.status, Status::ReadFault);
     assert!(rt; ended.out.bytes().is_empty());
     assert_eq!(rt; ended.err.bytes(), b"flexplan: read fault\n".as_slice());
-    // The last fetch, of the query file, fails where the times aren't planned for: a read fault comes first.
-    let mut files = files_with(alloc, &[("t/points.txt", "")])?;
+    // The last fetch, of the query file, fails where the walks aren't planned for: a read fault comes first.
+    let walks = ("t/walks.txt", "from_id,to_id,seconds\nM,N,600\n");
+    let mut files = files_with(alloc, &[walks])?;
     files.fail_at(18)?;
     let ended = ran(alloc, &PLAN, &mut files, MemSink::new(alloc));
     assert_eq!(rt; ended.status, Status::ReadFault);

@@ -1,1 +1,9 @@
-pub mod UtcTimes
+pub mod PairFacts
+pub mod Texts
+pub mod FoundFacts
+pub mod PlaceFacts
+pub mod SpanOrder
+pub mod AcceptedSpans
+pub mod LevelFacts
+pub mod LoadFacts
+pub mod SampleFeed

@@ -2,7 +2,19 @@
 #![tactic(auto)]
 
 mod fetch;
+mod fields;
+mod file_faults;
 mod folder;
+mod found;
+mod links;
+mod pairs;
+mod places;
+mod point_records;
+mod read;
+mod span_records;
+mod spans;
 
-pub use fetch::{TimesFiles, fetch_times};
 pub use folder::{LoadedTimes, load_times};
+
+#[cfg(test)]
+mod tests;

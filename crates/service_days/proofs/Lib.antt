@@ -1,4 +1,9 @@
 pub mod BackDays
 pub mod Flags
+pub mod NoonFacts
+pub mod RuleAgreement
 pub mod TableDays
+pub mod TextTrims
+pub mod TextUtf8
+pub mod ZoneAnswers
 pub mod ZoneTables

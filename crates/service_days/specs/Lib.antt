@@ -1,3 +1,6 @@
 pub mod Bases
 pub mod Given
+pub mod Noons
 pub mod Running
+pub mod ZoneForms
+pub mod ZoneTexts

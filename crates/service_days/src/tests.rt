@@ -1,6 +1,7 @@
 ghost use Rattle.std.specs.Prelude.{◌≡◌, IfOk, length};
 
 use super::*;
+use crate::zone::utc_zone;
 use flex_model::{Feed, Listed, Moment, NoMemory, Service, Text, Trip};
 use std::alloc::Global;
 use std::test::Fail;
@@ -132,6 +133,59 @@ fn begins_days_at_midnight_in_utc(rt: HostRuntime) -> Result<(), Fail> {
         assert_eq!(rt; is_travel_day(&days, day), travels);
     }
     Ok(())
+}
+
+// 2025-11-02T00:00:00Z.
+const NOVEMBER: Moment = 1_762_041_600;
+
+// The clocks of New York go forward on 2025-03-09, whose service day begins at 04:00:00Z, and back on 2025-11-02, whose
+// service day begins at 05:00:00Z.
+#[test]
+fn reads_rules(rt: HostRuntime) -> Result<(), Fail> {
+    let text = b"\xEF\xBB\xBF\tEST5EDT,M3.2.0,M11.1.0 \r\n";
+    let zone = read_zone(rt.alloc(), text, ZoneForm::Posix)?;
+    let days = day_table(rt.alloc(), &zone, NOVEMBER)?;
+    let cases = [
+        (20_155, 1_741_410_000),
+        (20_156, 1_741_492_800),
+        (20_393, 1_761_969_600),
+        (20_394, 1_762_059_600),
+    ];
+    for (day, base) in cases {
+        assert_eq!(rt; begin(&days, day), Some(base));
+    }
+    Ok(())
+}
+
+#[test]
+fn reads_utc(rt: HostRuntime) -> Result<(), Fail> {
+    let zone = read_zone(rt.alloc(), b"UTC0\n", ZoneForm::Posix)?;
+    let days = day_table(rt.alloc(), &zone, DEPART)?;
+    assert_eq!(rt; begin(&days, WEDNESDAY), Some(MIDNIGHT));
+    Ok(())
+}
+
+// A zone file of the first version that has one offset, an hour ahead of UTC.
+const HOUR_AHEAD: [u8; 54] =
+    *b"TZif\0\0\0\0\0\0\0\0\0\0\0\0\0\0\0\0\0\0\0\0\0\0\0\0\0\0\0\0\0\0\0\0\0\0\0\x01\0\0\0\x04\0\0\x0E\x10\0\0CET\0";
+
+#[test]
+fn reads_zone_files(rt: HostRuntime) -> Result<(), Fail> {
+    let zone = read_zone(rt.alloc(), &HOUR_AHEAD, ZoneForm::Tzif)?;
+    let days = day_table(rt.alloc(), &zone, DEPART)?;
+    assert_eq!(rt; begin(&days, WEDNESDAY), Some(MIDNIGHT - 3_600));
+    Ok(())
+}
+
+#[test]
+fn refuses_what_is_no_zone(rt: HostRuntime) {
+    let bad = Some(ZoneRefusal::BadZone);
+    assert_eq!(rt; read_zone(rt.alloc(), b"!", ZoneForm::Posix).err(), bad);
+    assert_eq!(rt;
+        read_zone(rt.alloc(), b"UTC0\xFF", ZoneForm::Posix).err(),
+        bad
+    );
+    assert_eq!(rt; read_zone(rt.alloc(), b"TZif", ZoneForm::Tzif).err(), bad);
 }
 
 #[test]

@@ -3,14 +3,16 @@
 ghost use Rattle.std.specs.Prelude.{◌≡◌, ◌+◌, ◌<◌, ◌≤◌, pos, IfOk, Some, slice_get};
 ghost use Rattle.flex_model.specs.declared.query.Query.{Query};
 ghost use Rattle.flex_model.specs.SoundQuery.{IsDayTableOf, IsQueryMoment, IsSoundDayTable};
-ghost use Rattle.service_days.specs.Bases.{base_of_noon, day_count, first_day, table_first, table_of, utc_bases, utc_noon};
+ghost use Rattle.service_days.specs.Bases.{IsZone, base_of_noon, day_count, first_day, table_first, table_of, utc_bases, utc_noon};
 
 use flex_model::{DayTable, Listed, Moment, NoMemory};
 use std::alloc::Global;
 use std::marker::Model;
 
-// The first day of a zone.
-const FIRST_DAY: u32 = 5_785;
+// The first day of a zone, and how many days it has.
+pub(crate) const FIRST_DAY: u32 = 5_785;
+
+pub(crate) const DAY_COUNT: u32 = 78_226;
 
 // How many days a table has before the day of its departure, and how many in all.
 const DAYS_BEFORE: u32 = 1_520;
@@ -38,13 +40,21 @@ impl Model for ZoneValue {
 }
 
 /// The zone UTC, which takes no memory.
-pub fn utc_zone() -> ZoneValue
+pub(crate) fn utc_zone() -> ZoneValue
     ensures { result ≡ utc_bases }
 {
     ZoneValue { given: None }
 }
 
 impl ZoneValue {
+    // The zone with these bases.
+    pub(crate) fn of_bases(bases: Listed<i64>) -> ZoneValue
+        requires { IsZone bases }
+        ensures { result ≡ bases }
+    {
+        ZoneValue { given: Some(bases) }
+    }
+
     // The base of the day at a place.
     fn base_at(&self, place: usize) -> Moment
         requires { place < day_count }

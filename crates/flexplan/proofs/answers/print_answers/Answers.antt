@@ -15,8 +15,8 @@ returns-in_err-print_answer-clause-printed g c =
     let size = ap length items in
     let same = c.query-item.is ∙ ap (λ l. get_or l c.loop-query.query-index c.query-item.result) items in
     gains_more _ _ _ _ _ _ c.loop-query.invariant.printed c.print_answer.ensures.printed
-    (λ first rest so_far next. stops_as (IsAnswerText input.feed input.times) input.queries c.loop-query.query-index c.query-item.result e _ _ first rest (omega (arith, size)) one all so_far
-    (subst (λ q. Prints (IsAnswerText input.feed input.times) q c.print_answer.result rest) same next))
+    (λ first rest so_far next. stops_as (IsAnswerText input.feed input.times input.zone) input.queries c.loop-query.query-index c.query-item.result e _ _ first rest (omega (arith, size)) one all so_far
+    (subst (λ q. Prints (IsAnswerText input.feed input.times input.zone) q c.print_answer.result rest) same next))
 
 pub loop-query-preserved : goal.loop-query-preserved
 loop-query-preserved g c = record {
@@ -27,7 +27,7 @@ loop-query-preserved g c = record {
       let size = ap length items in
       let same = c.query-item.is ∙ ap (λ l. get_or l c.loop-query.query-index c.query-item.result) items in
       gains_more _ _ _ _ _ _ c.loop-query.invariant.printed c.print_answer.ensures.printed
-      (λ first rest so_far next. goes_on (IsAnswerText input.feed input.times) input.queries c.loop-query.query-index c.query-item.result tt _ first rest (omega (arith, size)) one so_far
-      (subst (λ q. Prints (IsAnswerText input.feed input.times) q c.print_answer.result rest) same next));
+      (λ first rest so_far next. goes_on (IsAnswerText input.feed input.times input.zone) input.queries c.loop-query.query-index c.query-item.result tt _ first rest (omega (arith, size)) one so_far
+      (subst (λ q. Prints (IsAnswerText input.feed input.times input.zone) q c.print_answer.result rest) same next));
   counted = search rules;
 }

@@ -6,6 +6,6 @@ use Rattle.flexplan.proofs.answers.print_answers.Given as goal
 
 abbrev pub invariant-loop-query : goal.invariant-loop-query
 invariant-loop-query g l = record {
-  printed : Gains (g.O.Sink.contents l.fn.out) (g.O.Sink.contents l.out) (Texts (IsAnswerText l.input.feed l.input.times) (take l.query-index l.input.queries));
+  printed : Gains (g.O.Sink.contents l.fn.out) (g.O.Sink.contents l.out) (Texts (IsAnswerText l.input.feed l.input.times l.input.zone) (take l.query-index l.input.queries));
   counted : g.O.Sink.faults l.fn.out ≤ g.O.Sink.faults l.out;
 }

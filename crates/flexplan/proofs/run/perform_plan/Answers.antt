@@ -12,8 +12,8 @@ returns-in-Accepted-clause-printed g c =
     let told = g.F.Files.told c.args.files.now in
     let held = c.in-Accepted.held in
     let opened = subst (λ o. IfSome told (λ files. IsOpened files (paths c.args.input.now) o)) c.in-Accepted.is c.in_ok-held.ensures.opened in
-    accepted (plan (paths c.args.input.now)) told (map (answer held.feed held.times) held.queries) (g.O.Sink.contents c.args.out.now) (g.O.Sink.contents c.print_answers.new.out) c.print_answers.result c.ended.result (plan_accepted told (paths c.args.input.now) held opened) c.ended.ensures.end
-    (gains_as _ _ _ _ c.print_answers.ensures.printed (λ bytes prints. prints-map (answer held.feed held.times) RightText held.queries c.print_answers.result bytes prints))
+    accepted (plan (paths c.args.input.now)) told (map (answer held.feed held.times held.zone) held.queries) (g.O.Sink.contents c.args.out.now) (g.O.Sink.contents c.print_answers.new.out) c.print_answers.result c.ended.result (plan_accepted told (paths c.args.input.now) held opened) c.ended.ensures.end
+    (gains_as _ _ _ _ c.print_answers.ensures.printed (λ bytes prints. prints-map (answer held.feed held.times held.zone) RightText held.queries c.print_answers.result bytes prints))
 
 pub returns-in-Refused-clause-printed : goal.returns-in-Refused-clause-printed
 returns-in-Refused-clause-printed g c =
