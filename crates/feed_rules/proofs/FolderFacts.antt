@@ -1,11 +1,14 @@
--- What was read stands for the folder, table by table.
-use Rattle.flex_model.specs.declared.fault.InputFile.TheVariants.{Agency, Stops, Routes, Trips, StopTimes, Calendar, CalendarDates, LocationGroups, LocationGroupStops, BookingRules, Transfers, Frequencies}
+-- What was read stands for the folder, file by file.
+use Rattle.std.proofs.Common.{◌≡◌, true}
+use Rattle.flex_model.specs.declared.fault.InputFile.{InputFile}
+use Rattle.flex_model.specs.declared.fault.InputFile.TheVariants.{Agency, Stops, Routes, Trips, StopTimes, Calendar, CalendarDates, Locations, LocationGroups, LocationGroupStops, BookingRules, Transfers, Frequencies}
 use Rattle.feed_meaning.specs.Folder.{Folder}
-use Rattle.feed_rules.specs.Folders.{ReadsFolder}
+use Rattle.feed_rules.specs.Folders.{ReadsFolder, found_of, is_feed_table}
 use Rattle.feed_rules.specs.Found.{IsFound}
+use Rattle.feed_rules.specs.Zones.{AreFoundZones}
 use Rattle.feed_rules.specs.declared.folder.RawFeed.{RawFeed}
 
--- each table was found to be what the folder has
+-- each table and the zones were found to be what the folder has
 pub record ReadsEach (raw : RawFeed) (folder : Folder) : Type 0 where
   pub agency : IsFound (folder Agency) raw.agency
   pub stops : IsFound (folder Stops) raw.stops
@@ -14,23 +17,27 @@ pub record ReadsEach (raw : RawFeed) (folder : Folder) : Type 0 where
   pub stop_times : IsFound (folder StopTimes) raw.stop_times
   pub calendar : IsFound (folder Calendar) raw.calendar
   pub calendar_dates : IsFound (folder CalendarDates) raw.calendar_dates
+  pub zones : AreFoundZones (folder Locations) raw.zones
   pub location_groups : IsFound (folder LocationGroups) raw.location_groups
   pub location_group_stops : IsFound (folder LocationGroupStops) raw.location_group_stops
   pub booking_rules : IsFound (folder BookingRules) raw.booking_rules
   pub transfers : IsFound (folder Transfers) raw.transfers
   pub frequencies : IsFound (folder Frequencies) raw.frequencies
 
+tables_are : (raw : RawFeed) (folder : Folder) → ReadsEach raw folder → (file : InputFile) → is_feed_table file ≡ true → IsFound (folder file) (found_of raw file)
+tables_are raw folder each Agency e = each.agency
+tables_are raw folder each Stops e = each.stops
+tables_are raw folder each Routes e = each.routes
+tables_are raw folder each Trips e = each.trips
+tables_are raw folder each StopTimes e = each.stop_times
+tables_are raw folder each Calendar e = each.calendar
+tables_are raw folder each CalendarDates e = each.calendar_dates
+tables_are raw folder each LocationGroups e = each.location_groups
+tables_are raw folder each LocationGroupStops e = each.location_group_stops
+tables_are raw folder each BookingRules e = each.booking_rules
+tables_are raw folder each Transfers e = each.transfers
+tables_are raw folder each Frequencies e = each.frequencies
+tables_are raw folder each file e = cc
+
 pub reads_each : (raw : RawFeed) (folder : Folder) → ReadsEach raw folder → ReadsFolder raw folder
-reads_each raw folder each Agency e = each.agency
-reads_each raw folder each Stops e = each.stops
-reads_each raw folder each Routes e = each.routes
-reads_each raw folder each Trips e = each.trips
-reads_each raw folder each StopTimes e = each.stop_times
-reads_each raw folder each Calendar e = each.calendar
-reads_each raw folder each CalendarDates e = each.calendar_dates
-reads_each raw folder each LocationGroups e = each.location_groups
-reads_each raw folder each LocationGroupStops e = each.location_group_stops
-reads_each raw folder each BookingRules e = each.booking_rules
-reads_each raw folder each Transfers e = each.transfers
-reads_each raw folder each Frequencies e = each.frequencies
-reads_each raw folder each file e = cc
+reads_each raw folder each = record { tables = tables_are raw folder each; zones = each.zones }

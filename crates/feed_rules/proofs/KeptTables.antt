@@ -145,13 +145,13 @@ empty (x ∷ xs) alone b e same on = let h : length (x ∷ xs) ≡ 0 = eqb-true 
 pub linked : (raw : RawFeed) (folder : Folder) → ReadsFolder raw folder → level_one raw ≡ [] → (file : InputFile) → is_feed_table file ≡ true
     → (o : Option (Bor (List (List (List ℕ))))) → option_map (λ t. t.now) o ≡ table_of (found_of raw file) → map (λ e. e.values) (entries folder file) ≡ records_in o
 linked raw folder reads none file e o is =
-    kept_records file (needs raw file) (folder file) (found_of raw file) (reads file e) (no_own raw none file e) ∙ records-by o (table_of (found_of raw file)) is
+    kept_records file (needs raw file) (folder file) (found_of raw file) (reads.tables file e) (no_own raw none file e) ∙ records-by o (table_of (found_of raw file)) is
 
 -- a table that is always needed was read then
 pub needed : (raw : RawFeed) (folder : Folder) → ReadsFolder raw folder → level_one raw ≡ [] → (file : InputFile) → is_feed_table file ≡ true → needs raw file ≡ true
     → (o : Option (Bor (List (List (List ℕ))))) → option_map (λ t. t.now) o ≡ table_of (found_of raw file) → o ≡ None → ⊥
 needed raw folder reads none file e is_needed o is unread =
-    needed_is_read file (folder file) (found_of raw file) (reads file e)
+    needed_is_read file (folder file) (found_of raw file) (reads.tables file e)
     (ap (λ b. found_faults file b (found_of raw file)) (sym is_needed) ∙ no_own raw none file e)
     (sym is ∙ ap (option_map (λ t. t.now)) unread)
 

@@ -105,7 +105,7 @@ module _ (geo : Geo) (raw : RawFeed) (folder : Folder) (reads : ReadsFolder raw 
   needs-exact Routes e = refl
   needs-exact Trips e = refl
   needs-exact StopTimes e = refl
-  needs-exact Calendar e = ap not (is_found-exact CalendarDates (folder CalendarDates) raw.calendar_dates (reads CalendarDates refl))
+  needs-exact Calendar e = ap not (is_found-exact CalendarDates (folder CalendarDates) raw.calendar_dates (reads.tables CalendarDates refl))
   needs-exact CalendarDates e = refl
   needs-exact LocationGroups e = refl
   needs-exact LocationGroupStops e = refl
@@ -132,7 +132,7 @@ module _ (geo : Geo) (raw : RawFeed) (folder : Folder) (reads : ReadsFolder raw 
 
   own-exact : (file : InputFile) → is_feed_table file ≡ true → found_faults file (needs raw file) (found_of raw file) ≡ file_faults (feed_contents geo) folder file
   own-exact file e =
-      found_faults-exact file (folder file) (feed_contents geo) (needs raw file) (found_of raw file) (says file e) (reads file e)
+      found_faults-exact file (folder file) (feed_contents geo) (needs raw file) (found_of raw file) (says file e) (reads.tables file e)
       ∙ ap (λ n. if counts_as_present file (folder file) then fetched_faults (feed_contents geo) file (folder file) else missing_fault file n) (needs-exact file e)
 
   no_locations : file_faults (feed_contents geo) folder Locations ≡ []

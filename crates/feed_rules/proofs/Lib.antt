@@ -9,6 +9,7 @@ pub mod StationFacts
 pub mod KnownIds
 pub mod FoundFacts
 pub mod FolderFacts
+pub mod ZoneFacts
 pub mod LevelFacts
 pub mod KeptTables
 pub mod LinkedTables

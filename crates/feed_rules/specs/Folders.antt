@@ -9,9 +9,11 @@ use Rattle.flex_model.specs.declared.fault.RawFile.{RawFile}
 use Rattle.flex_model.specs.declared.fault.RawFile.TheVariants.{Absent, TooLarge, Bytes}
 use Rattle.feed_meaning.specs.Folder.{Folder}
 use Rattle.feed_rules.specs.Found.{IsFound}
+use Rattle.feed_rules.specs.Zones.{AreFoundZones}
 use Rattle.feed_rules.specs.declared.found.Found.TheVariants as found
 use Rattle.feed_rules.specs.declared.found.Found.{Found}
 use Rattle.feed_rules.specs.declared.folder.RawFeed.{RawFeed}
+use Rattle.feed_rules.specs.declared.zones.FoundZones.{FoundZones}
 
 -- thirteen files that are absent
 abbrev pub absent_files : List RawFile
@@ -52,7 +54,7 @@ place_of Transfers = 11
 place_of Frequencies = 12
 place_of file = 13
 
--- what each table of the feed was found to be; other files aren't kept
+-- what each table of the feed was found to be; other files are no tables
 abbrev pub found_of : RawFeed → InputFile → Found
 found_of raw Agency = raw.agency
 found_of raw Stops = raw.stops
@@ -84,9 +86,14 @@ is_feed_table Transfers = true
 is_feed_table Frequencies = true
 is_feed_table file = false
 
--- what was read stands for the folder: each table was found to be what the folder has
-abbrev pub ReadsFolder : RawFeed → Folder → Type 0
-ReadsFolder raw folder = (file : InputFile) → is_feed_table file ≡ true → IsFound (folder file) (found_of raw file)
+-- what locations.geojson was found to be
+abbrev pub found_zones : RawFeed → FoundZones
+found_zones raw = raw.zones
+
+-- What was read stands for the folder: each table was found to be what the folder has, and so were the zones.
+pub record ReadsFolder (raw : RawFeed) (folder : Folder) : Type 0 where
+  pub tables : (file : InputFile) → is_feed_table file ≡ true → IsFound (folder file) (found_of raw file)
+  pub zones : AreFoundZones (folder Locations) (found_zones raw)
 
 -- the records of a table that was read, header first
 abbrev pub table_of : Found → Option (List (List (List ℕ)))

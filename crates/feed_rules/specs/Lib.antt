@@ -8,5 +8,6 @@ pub mod Transfers
 pub mod BookingRules
 pub mod Links
 pub mod Fetched
+pub mod Zones
 pub mod Folders
 pub mod Levels

@@ -130,7 +130,7 @@ fn level_two(alloc: Global, raw: &RawFeed) -> Result<Listed<Fault>, NoMemory>
 }
 
 /// The fault list of the feed: of the tables by themselves, and where that is empty, of the tables beside each other. It is
-/// the whole list where locations.geojson, which isn't read here, is absent.
+/// the whole list where locations.geojson, whose zones aren't judged here, is absent.
 pub fn faults(alloc: Global, raw: &RawFeed) -> Result<Listed<Fault>, NoMemory>
     ensures { IfOk result (λ faults. (geo : Geo) (folder : Folder) → ReadsFolder raw.now folder → LacksLocations folder → faults ≡ feed_faults geo folder) }
 {

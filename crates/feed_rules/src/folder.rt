@@ -3,14 +3,18 @@
 ghost use Rattle.std.specs.Prelude.{◌≡◌, ◌<◌, ◌↔◌, IfOk, IsTrue, MatchOption, false, set};
 ghost use Rattle.std.specs.Option.{option_map};
 ghost use Rattle.flex_model.specs.declared.fault.InputFile.{InputFile};
+ghost use Rattle.flex_model.specs.declared.fault.InputFile.TheVariants as Files;
 ghost use Rattle.flex_model.specs.declared.fault.RawFile.TheVariants as Raw;
 ghost use Rattle.feed_meaning.specs.Folder.{Folder};
 ghost use Rattle.feed_meaning.specs.Told.{IsWithin};
-ghost use Rattle.feed_rules.specs.Folders.{ReadsFolder, absent_files, folder_of, found_of, is_feed_table, place_of, table_in, table_of};
+ghost use Rattle.feed_rules.specs.Folders.{ReadsFolder, absent_files, folder_of, found_of, found_zones, is_feed_table, place_of, table_in, table_of};
+ghost use Rattle.feed_rules.specs.Zones.{AreZonesOf, zones_in};
 
 use crate::found::{Found, read_file};
+use crate::zones::{FoundZones, find_zones};
 use feed_tables::Table;
-use flex_model::{InputFile, NoMemory, RawFile};
+use flex_model::{InputFile, Listed, NoMemory, RawFile};
+use geo_json::ZoneRecord;
 use std::alloc::Global;
 use std::marker::Model;
 
@@ -122,7 +126,7 @@ fn is_absent(raw: &RawFile) -> bool
     matches!(raw, RawFile::Absent)
 }
 
-/// The twelve tables of a feed as they were read.
+/// The twelve tables of a feed and its zones, as they were read.
 #[derive(Drop)]
 pub struct RawFeed {
     pub(crate) agency: Found,
@@ -132,6 +136,7 @@ pub struct RawFeed {
     pub(crate) stop_times: Found,
     pub(crate) calendar: Found,
     pub(crate) calendar_dates: Found,
+    pub(crate) zones: FoundZones,
     pub(crate) location_groups: Found,
     pub(crate) location_group_stops: Found,
     pub(crate) booking_rules: Found,
@@ -140,7 +145,7 @@ pub struct RawFeed {
 }
 
 impl RawFeed {
-    /// Reads each table.
+    /// Reads each table, and the zones.
     pub fn read(alloc: Global, bytes: &FeedBytes) -> Result<RawFeed, NoMemory>
         ensures { IfOk result (λ raw. ReadsFolder raw (folder_of bytes.now)) }
     {
@@ -152,6 +157,7 @@ impl RawFeed {
             stop_times: read_file(alloc, &bytes.stop_times)?,
             calendar: read_file(alloc, &bytes.calendar)?,
             calendar_dates: read_file(alloc, &bytes.calendar_dates)?,
+            zones: find_zones(alloc, &bytes.locations)?,
             location_groups: read_file(alloc, &bytes.location_groups)?,
             location_group_stops: read_file(alloc, &bytes.location_group_stops)?,
             booking_rules: read_file(alloc, &bytes.booking_rules)?,
@@ -189,6 +195,18 @@ impl RawFeed {
     {
         match self.found(file) {
             Some(Found::Read(table)) => Some(table),
+            _ => None,
+        }
+    }
+
+    /// The zones of locations.geojson, where it is there, within its limit and not refused. It is refused where its text,
+    /// without one byte order mark, isn't UTF-8, and where `geo_json::read_zones` refuses it. Two zones may have one id.
+    pub fn zones(&self) -> Option<&Listed<ZoneRecord>>
+        ensures found { option_map (λ zones. zones.now) result ≡ zones_in (found_zones self.now) }
+        ensures zones { (folder : Folder) → ReadsFolder self.now folder → AreZonesOf (folder Files.Locations) (option_map (λ zones. zones.now) result) }
+    {
+        match &self.zones {
+            FoundZones::Read(zones) => Some(zones),
             _ => None,
         }
     }

@@ -26,6 +26,7 @@ mod stop_times;
 mod stops;
 mod transfers;
 mod trips;
+mod zones;
 
 pub use feed_faults::faults;
 pub use folder::{FeedBytes, RawFeed};

@@ -1,0 +1,11 @@
+mod Children
+mod Degrees
+mod Existing
+mod FeatureChecks
+mod Firsts
+mod Found
+mod LineFeeds
+mod ReadOn
+mod RingChecks
+mod Sizes
+mod Told

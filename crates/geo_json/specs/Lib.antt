@@ -1,0 +1,9 @@
+pub mod Features
+pub mod Forms
+pub mod Laws
+pub mod Refusals
+pub mod Scans
+pub mod Steps
+pub mod There
+pub mod Walks
+pub mod Zones

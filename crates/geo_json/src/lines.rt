@@ -1,0 +1,71 @@
+//! Lines of a text.
+
+ghost use Rattle.std.specs.Prelude.{◌≡◌, ◌≤◌, ◌<◌, ◌^◌, count_by, length, nat_eq};
+ghost use Rattle.feed_meaning.specs.Locations.{row_at};
+
+use std::marker::Model;
+
+/// How many line feeds there are.
+fn line_feeds(bytes: &[u8]) -> u64
+    ensures { result ≡ count_by (nat_eq 10) bytes.now }
+{
+    bytes.iter().filter(|byte| **byte == b'\n').count() as u64
+}
+
+/// Tells the lines of a text's places. It counts on from the last place, so that rising places take one pass.
+/// Contracts see the text's bytes.
+#[derive(Drop)]
+pub(crate) struct Lines<'a> {
+    text: &'a [u8],
+    place: usize,
+    line: u64,
+}
+
+impl<'a> Model for Lines<'a> {
+    ghost use Rattle.std.specs.Prelude.{◌≡◌, ◌<◌, ◌≤◌, ◌^◌, List, ℕ, length};
+    ghost use Rattle.feed_meaning.specs.Locations.{row_at};
+
+    ghost Value = { List ℕ };
+
+    ghost view = { λ lines. lines.text.now };
+
+    ghost invariant = { λ lines. (length lines.text.now < 2 ^ 32) × (lines.place ≤ length lines.text.now)
+        × (lines.line ≡ row_at lines.text.now lines.place) };
+}
+
+impl<'a> Lines<'a> {
+    pub(crate) fn new(text: &'a str) -> Lines<'a>
+        requires { length text.now < 2 ^ 32 }
+        ensures { result ≡ text.now }
+    {
+        Lines {
+            text: text.as_bytes(),
+            place: 0,
+            line: 1,
+        }
+    }
+
+    /// A place up to this one from which to count, with its line.
+    fn start_for(&self, place: usize) -> (usize, u64)
+        ensures before { result.0 ≤ place }
+        ensures line { result.1 ≡ row_at self.now result.0 }
+    {
+        if place < self.place {
+            (0, 1)
+        } else {
+            (self.place, self.line)
+        }
+    }
+
+    /// The line of a place, counted from 1.
+    pub(crate) fn line_at(&mut self, place: u64) -> u64
+        ensures line { result ≡ row_at self.old place }
+        ensures same { self.new ≡ self.old }
+    {
+        let end = (place as usize).min(self.text.len());
+        let (start, line) = self.start_for(end);
+        self.line = line + line_feeds(&self.text[start..end]);
+        self.place = end;
+        self.line
+    }
+}
