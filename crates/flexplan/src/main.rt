@@ -42,4 +42,6 @@ fn run_words(rt: HostRuntime, args: env::Args) -> Result<Status, AllocError> {
 }
 
 #[cfg(test)]
+mod lint_tests;
+#[cfg(test)]
 mod tests;
