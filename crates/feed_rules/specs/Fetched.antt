@@ -3,7 +3,9 @@ use Rattle.flex_model.specs.declared.fault.RawFile.{RawFile}
 use Rattle.feed_meaning.specs.Told.{IsWithin}
 
 -- files whose bytes can be counted in 32 bits
-pub record AreCounted (agency stops routes trips stop_times calendar calendar_dates locations location_groups location_group_stops booking_rules transfers frequencies : RawFile) : Type 0 where
+pub record AreCounted
+    (agency stops routes trips stop_times calendar calendar_dates locations location_groups
+    location_group_stops booking_rules transfers frequencies : RawFile) : Type 0 where
   pub agency-within : IsWithin 4294967295 agency
   pub stops-within : IsWithin 4294967295 stops
   pub routes-within : IsWithin 4294967295 routes

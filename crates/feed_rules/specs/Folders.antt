@@ -18,7 +18,8 @@ use Rattle.feed_rules.specs.declared.zones.FoundZones.{FoundZones}
 -- thirteen files that are absent
 abbrev pub absent_files : List RawFile
 absent_files =
-    Absent ∷ Absent ∷ Absent ∷ Absent ∷ Absent ∷ Absent ∷ Absent ∷ Absent ∷ Absent ∷ Absent ∷ Absent ∷ Absent ∷ Absent ∷ []
+    Absent ∷ Absent ∷ Absent ∷ Absent ∷ Absent ∷ Absent ∷ Absent ∷ Absent ∷ Absent ∷ Absent ∷ Absent
+    ∷ Absent ∷ Absent ∷ []
 
 -- the folder of a feed's files, in their order
 abbrev pub folder_of : List RawFile → Folder
@@ -92,7 +93,8 @@ found_zones raw = raw.zones
 
 -- What was read stands for the folder: each table was found to be what the folder has, and so were the zones.
 pub record ReadsFolder (raw : RawFeed) (folder : Folder) : Type 0 where
-  pub tables : (file : InputFile) → is_feed_table file ≡ true → IsFound (folder file) (found_of raw file)
+  pub tables : (file : InputFile) → is_feed_table file ≡ true
+      → IsFound (folder file) (found_of raw file)
   pub zones : AreFoundZones (folder Locations) (found_zones raw)
 
 -- the records of a table that was read, header first
@@ -101,7 +103,8 @@ table_of (found.Read t) = Some t
 table_of found = None
 
 -- records that aren't refused
-abbrev pub accepted_records : Option TableRefusal → List (List (List ℕ)) → Option (List (List (List ℕ)))
+abbrev pub accepted_records : Option TableRefusal → List (List (List ℕ))
+    → Option (List (List (List ℕ)))
 accepted_records None records = Some records
 accepted_records (Some r) records = None
 
@@ -109,7 +112,8 @@ accepted_records (Some r) records = None
 abbrev pub raw_table : RawFile → Option (List (List (List ℕ)))
 raw_table Absent = None
 raw_table TooLarge = None
-raw_table (Bytes bytes) = accepted_records (first_refusal (table_records bytes)) (table_records bytes)
+raw_table (Bytes bytes) = accepted_records (first_refusal (table_records bytes))
+    (table_records bytes)
 
 -- the records of a table of a feed, where it can be read
 abbrev pub table_in : Folder → InputFile → Option (List (List (List ℕ)))

@@ -20,8 +20,10 @@ use Rattle.feed_rules.specs.declared.found.Found.TheVariants.{Absent, TooLarge, 
 abbrev pub IsFound : RawFile → Found → Type 0
 IsFound raw Absent = raw ≡ raw_file.Absent
 IsFound raw TooLarge = raw ≡ raw_file.TooLarge
-IsFound raw (Refused r) = (bytes : List ℕ) × (raw ≡ raw_file.Bytes bytes) × (first_refusal (table_records bytes) ≡ Some r)
-IsFound raw (Read t) = (bytes : List ℕ) × (raw ≡ raw_file.Bytes bytes) × (first_refusal (table_records bytes) ≡ None) × (t ≡ table_records bytes)
+IsFound raw (Refused r) = (bytes : List ℕ) × (raw ≡ raw_file.Bytes bytes)
+    × (first_refusal (table_records bytes) ≡ Some r)
+IsFound raw (Read t) = (bytes : List ℕ) × (raw ≡ raw_file.Bytes bytes)
+    × (first_refusal (table_records bytes) ≡ None) × (t ≡ table_records bytes)
 
 -- the needed columns and the rules of each table
 abbrev pub schema_of : InputFile → Schema
@@ -57,10 +59,14 @@ missing_fault file is_needed = if is_needed then fault file 0 code.MissingFile �
 abbrev pub outer_faults : InputFile → Bool → Found → List Fault
 outer_faults file is_needed Absent = missing_fault file is_needed
 outer_faults file is_needed TooLarge = fault file 0 code.FileTooLarge ∷ []
-outer_faults file is_needed (Refused r) = if may_be_blank file && is_no_header r then missing_fault file is_needed else refusal_fault file r
-outer_faults file is_needed (Read t) = missing_faults file (missing_columns (schema_of file) (header_of t))
+outer_faults file is_needed (Refused r) =
+    if may_be_blank file && is_no_header r then missing_fault file is_needed
+    else refusal_fault file r
+outer_faults file is_needed (Read t) =
+    missing_faults file (missing_columns (schema_of file) (header_of t))
 
 -- the faults of a file by itself
 abbrev pub found_faults : InputFile → Bool → Found → List Fault
-found_faults file is_needed (Read t) = schema_faults file (schema_of file) (missing_columns (schema_of file) (header_of t)) t
+found_faults file is_needed (Read t) =
+    schema_faults file (schema_of file) (missing_columns (schema_of file) (header_of t)) t
 found_faults file is_needed found = outer_faults file is_needed found

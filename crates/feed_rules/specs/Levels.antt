@@ -13,7 +13,8 @@ use Rattle.feed_rules.specs.declared.folder.RawFeed.{RawFeed}
 -- the tables of a feed, in the order of its files
 abbrev pub feed_tables : List InputFile
 feed_tables =
-    Agency ∷ Stops ∷ Routes ∷ Trips ∷ StopTimes ∷ Calendar ∷ CalendarDates ∷ LocationGroups ∷ LocationGroupStops ∷ BookingRules ∷ Transfers
+    Agency ∷ Stops ∷ Routes ∷ Trips ∷ StopTimes ∷ Calendar ∷ CalendarDates ∷ LocationGroups
+    ∷ LocationGroupStops ∷ BookingRules ∷ Transfers
     ∷ Frequencies ∷ []
 
 -- the feed can't do without the table, where locations.geojson is absent
@@ -28,7 +29,8 @@ needs raw file = false
 
 -- the faults of the tables by themselves
 abbrev pub level_one : RawFeed → List Fault
-level_one raw = flat_map (λ file. found_faults file (needs raw file) (found_of raw file)) feed_tables
+level_one raw = flat_map (λ file. found_faults file (needs raw file)
+    (found_of raw file)) feed_tables
 
 -- locations.geojson, whose features aren't judged here, is absent
 pub record LacksLocations (folder : Folder) : Type 0 where

@@ -21,7 +21,8 @@ pub record StandFor (ids : LinkIds) (tables : Tables) : Type 0 where
   pub dates : HasIds ids.dates tables CalendarDates "service_id"
   pub trips : HasIds ids.trips tables Trips "trip_id"
   pub stops : HasIds ids.stops tables Stops "stop_id"
-  pub stations : (text : List ℕ) → is_given text ≡ true → list_any (bytes_eq text) ids.stations ≡ is_station tables text
+  pub stations : (text : List ℕ) → is_given text ≡ true
+      → list_any (bytes_eq text) ids.stations ≡ is_station tables text
   pub groups : HasIds ids.groups tables LocationGroups "location_group_id"
   pub zones : HasIds ids.zones tables Locations "id"
   pub booking_rules : HasIds ids.booking_rules tables BookingRules "booking_rule_id"
@@ -33,7 +34,8 @@ records_in (Some table) = map (λ e. e.values) (entries_of table.now)
 
 -- the ids stand for the column with this name, in all tables that have the records of the file
 abbrev pub StandForColumn : List (List ℕ) → Option (Bor (List (List (List ℕ)))) → List ℕ → Type 0
-StandForColumn ids found name = (tables : Tables) (file : InputFile) (column : String) → name ≡ codes column → tables file ≡ records_in found → HasIds ids tables file column
+StandForColumn ids found name = (tables : Tables) (file : InputFile) (column : String)
+    → name ≡ codes column → tables file ≡ records_in found → HasIds ids tables file column
 
 -- the tables' records are those of the files, and there are no features
 pub record AreTablesOf (found : LinkTables) (tables : Tables) : Type 0 where

@@ -9,7 +9,8 @@ abbrev pub has_pair : {T : Type 0} → (T → T → Bool) → List (Bor (List �
 has_pair same met q = list_any (λ k. bytes_eq q.0 k.0.now && same q.1 k.1) met
 
 -- a key that is there is among those that were met
-abbrev pub has_some_pair : {T : Type 0} → (T → T → Bool) → List (Bor (List ℕ) × T) → Option (List ℕ × T) → Bool
+abbrev pub has_some_pair : {T : Type 0} → (T → T → Bool) → List (Bor (List ℕ) × T)
+    → Option (List ℕ × T) → Bool
 has_some_pair same met None = false
 has_some_pair same met (Some q) = has_pair same met q
 

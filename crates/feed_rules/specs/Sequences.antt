@@ -22,8 +22,10 @@ key_cmp x y = ordering_then (slice_cmp nat_cmp x.0.now y.0.now) (nat_cmp x.1 y.1
 
 -- the record has this trip and this stop_sequence
 abbrev pub has_key : Key → Values → Bool
-has_key q r = bytes_eq (r "trip_id") q.0.now && stand nat_eq (sequence (r "stop_sequence")) (Some q.1)
+has_key q r = bytes_eq (r "trip_id") q.0.now && stand nat_eq (sequence (r "stop_sequence"))
+    (Some q.1)
 
 -- each trip and stop_sequence of the records has the departure of the first record with them
 abbrev pub HoldsFirst : BTreeMap Key (Option ℕ) → List Values → Type 0
-HoldsFirst order records = (q : Key) → get key_cmp order q ≡ option_map departure (find (has_key q) records)
+HoldsFirst order records = (q : Key)
+    → get key_cmp order q ≡ option_map departure (find (has_key q) records)

@@ -12,7 +12,8 @@ pub record AreColumns (header : List (List ℕ)) (c : StopTimeColumns) : Type 0 
   pub trip_id : c.trip_id ≡ position (bytes_eq (codes "trip_id")) header
   pub stop_sequence : c.stop_sequence ≡ position (bytes_eq (codes "stop_sequence")) header
   pub stop_id : c.stop_id ≡ position (bytes_eq (codes "stop_id")) header
-  pub location_group_id : c.location_group_id ≡ position (bytes_eq (codes "location_group_id")) header
+  pub location_group_id : c.location_group_id ≡ position
+      (bytes_eq (codes "location_group_id")) header
   pub location_id : c.location_id ≡ position (bytes_eq (codes "location_id")) header
   pub arrival_time : c.arrival_time ≡ position (bytes_eq (codes "arrival_time")) header
   pub departure_time : c.departure_time ≡ position (bytes_eq (codes "departure_time")) header
@@ -21,7 +22,8 @@ pub record AreColumns (header : List (List ℕ)) (c : StopTimeColumns) : Type 0 
   pub pickup_type : c.pickup_type ≡ position (bytes_eq (codes "pickup_type")) header
   pub drop_off_type : c.drop_off_type ≡ position (bytes_eq (codes "drop_off_type")) header
   pub pickup_rule : c.pickup_rule ≡ position (bytes_eq (codes "pickup_booking_rule_id")) header
-  pub drop_off_rule : c.drop_off_rule ≡ position (bytes_eq (codes "drop_off_booking_rule_id")) header
+  pub drop_off_rule : c.drop_off_rule ≡ position
+      (bytes_eq (codes "drop_off_booking_rule_id")) header
 
 -- the texts and the values of a record
 pub record IsRead (r : Values) (s : StopTime) : Type 0 where

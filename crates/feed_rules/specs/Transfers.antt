@@ -15,7 +15,8 @@ pub record AreTransferColumns (header : List (List ℕ)) (c : TransferColumns) :
   pub from_stop_id : c.from_stop_id ≡ position (bytes_eq (codes "from_stop_id")) header
   pub to_stop_id : c.to_stop_id ≡ position (bytes_eq (codes "to_stop_id")) header
   pub transfer_type : c.transfer_type ≡ position (bytes_eq (codes "transfer_type")) header
-  pub min_transfer_time : c.min_transfer_time ≡ position (bytes_eq (codes "min_transfer_time")) header
+  pub min_transfer_time : c.min_transfer_time ≡ position
+      (bytes_eq (codes "min_transfer_time")) header
   pub from_route_id : c.from_route_id ≡ position (bytes_eq (codes "from_route_id")) header
   pub to_route_id : c.to_route_id ≡ position (bytes_eq (codes "to_route_id")) header
   pub from_trip_id : c.from_trip_id ≡ position (bytes_eq (codes "from_trip_id")) header
@@ -49,4 +50,5 @@ texts_of pairs = map (λ k. (k.0, k.1.now)) pairs
 -- the pairs of stops that were met are those of the records
 abbrev pub AreStopsMet : List (Bor (List ℕ) × Bor (List ℕ)) → List Values → Type 0
 AreStopsMet met records =
-    (q : List ℕ × List ℕ) → has_pair bytes_eq (texts_of met) q ≡ list_any (are_same_pairs bytes_eq bytes_eq q) (filter_map stops_of records)
+    (q : List ℕ × List ℕ) → has_pair bytes_eq (texts_of met) q ≡ list_any
+    (are_same_pairs bytes_eq bytes_eq q) (filter_map stops_of records)

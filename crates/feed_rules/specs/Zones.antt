@@ -18,7 +18,8 @@ pub record Scans (scan : List ℕ → Scan) (text : List ℕ) : Type 0 where
 
 -- the bytes of the file hold this, in whichever way that agrees with JSON their text is scanned
 pub record Hold (bytes : List ℕ) (zones : Zones) : Type 0 where
-  pub by_each_scan : (scan : List ℕ → Scan) → Scans scan (without_mark bytes) → zones_of scan bytes ≡ zones
+  pub by_each_scan : (scan : List ℕ → Scan) → Scans scan (without_mark bytes)
+      → zones_of scan bytes ≡ zones
 
 -- The bytes are refused for one fault.
 abbrev pub AreRefused : List ℕ → ℕ → FaultCode → Type 0
@@ -33,8 +34,10 @@ HoldZones bytes zones = Hold bytes (walked (map feature_in zones) [])
 abbrev pub AreFoundZones : RawFile → FoundZones → Type 0
 AreFoundZones raw Absent = raw ≡ raw_file.Absent
 AreFoundZones raw TooLarge = raw ≡ raw_file.TooLarge
-AreFoundZones raw (Refused code row) = (bytes : List ℕ) × (raw ≡ raw_file.Bytes bytes) × AreRefused bytes row code
-AreFoundZones raw (Read zones) = (bytes : List ℕ) × (raw ≡ raw_file.Bytes bytes) × HoldZones bytes zones
+AreFoundZones raw (Refused code row) =
+    (bytes : List ℕ) × (raw ≡ raw_file.Bytes bytes) × AreRefused bytes row code
+AreFoundZones raw (Read zones) =
+    (bytes : List ℕ) × (raw ≡ raw_file.Bytes bytes) × HoldZones bytes zones
 
 -- the zones that were read
 abbrev pub zones_in : FoundZones → Option (List ZoneRecord)

@@ -16,7 +16,8 @@ use std::alloc::Global;
 
 // Whether there is a first zone, and it is another one.
 fn differs(first: Option<&str>, zone: &str) -> bool
-    ensures { result ≡ list_any (λ text. not (bytes_eq text.now zone.now)) (option_to_list first.entry) }
+    ensures { result ≡ list_any (λ text. not (bytes_eq text.now zone.now))
+        (option_to_list first.entry) }
 {
     match first {
         Some(text) => text != zone,
@@ -27,7 +28,8 @@ fn differs(first: Option<&str>, zone: &str) -> bool
 // The rules of an agency.
 fn agency_rules(zone: &str, differs: bool) -> [Option<FaultCode>; 2]
     ensures { (earlier : List Values) (r : Values) → zone.now ≡ r "agency_timezone"
-        → differs ≡ list_any (λ first. not (bytes_eq (first "agency_timezone") (r "agency_timezone"))) (take 1 earlier)
+        → differs ≡ list_any (λ first. not
+        (bytes_eq (first "agency_timezone") (r "agency_timezone"))) (take 1 earlier)
         → result ≡ FeedRules.agency_rules earlier r }
 {
     [
@@ -38,7 +40,8 @@ fn agency_rules(zone: &str, differs: bool) -> [Option<FaultCode>; 2]
 
 /// The faults of the records of agency.txt by themselves.
 pub(crate) fn agency_faults(alloc: Global, table: &Table) -> Result<Listed<Fault>, NoMemory>
-    ensures { IfOk result (λ faults. faults ≡ record_faults Files.Agency FeedRules.agency_rules (entries_of table.now)) }
+    ensures { IfOk result (λ faults. faults ≡ record_faults Files.Agency FeedRules.agency_rules
+        (entries_of table.now)) }
 {
     let agency_timezone = table.column("agency_timezone");
     let mut faults = Listed::new(alloc);

@@ -15,13 +15,9 @@ use crate::fields::{choice, is_no, time};
 use feed_meaning::{Ids, add_faults, is_bad, is_empty, is_given, is_text, rule, value};
 use feed_tables::{RowView, Table};
 use field_text::read_count;
+use flex_model::limits::{GREATEST_NOTICE_DAYS, GREATEST_NOTICE_MINUTES};
 use flex_model::{Fault, FaultCode, InputFile, Listed, NoMemory};
 use std::alloc::Global;
-
-// The longest notice in minutes, and in days.
-const MOST_MINUTES: u64 = 1_000_000;
-
-const MOST_DAYS: u64 = 1000;
 
 /// The places of the columns of booking_rules.txt, where it has them.
 #[derive(Clone, Copy)]
@@ -79,19 +75,20 @@ pub(crate) fn booking_columns(table: &Table) -> BookingColumns
 fn minutes(text: &str) -> Option<u64>
     ensures { result ≡ Grammars.count 1000000 text.now }
 {
-    read_count(text, MOST_MINUTES).ok()
+    read_count(text, GREATEST_NOTICE_MINUTES).ok()
 }
 
 // A notice in days.
 fn days(text: &str) -> Option<u64>
     ensures { result ≡ Grammars.count 1000 text.now }
 {
-    read_count(text, MOST_DAYS).ok()
+    read_count(text, GREATEST_NOTICE_DAYS).ok()
 }
 
 /// The texts of a record, and their values.
 pub(crate) fn read_booking<'a>(row: &RowView<'a>, columns: BookingColumns) -> BookingRule<'a>
-    ensures { (header : List (List ℕ)) → AreBookingColumns header columns → IsReadBooking (values_of header row.now.fields) result }
+    ensures { (header : List (List ℕ)) → AreBookingColumns header columns
+        → IsReadBooking (values_of header row.now.fields) result }
 {
     let kind = value(row, columns.booking_type);
     let duration_min = value(row, columns.duration_min);
@@ -128,7 +125,8 @@ fn conditional<T: Copy>(
     text: &str,
     value: Option<T>,
 ) -> Option<FaultCode>
-    ensures { (kind : List ℕ → Option T) (t : List ℕ) → text.now ≡ t → value ≡ kind t → result ≡ FeedRules.conditional wanted allowed code kind t }
+    ensures { (kind : List ℕ → Option T) (t : List ℕ) → text.now ≡ t → value ≡ kind t
+        → result ≡ FeedRules.conditional wanted allowed code kind t }
 {
     let is_missing = wanted && is_empty(text);
     let is_forbidden = !allowed && is_given(text);
@@ -144,7 +142,9 @@ fn conditional<T: Copy>(
 // Whether a record may say from which day on one can book.
 fn may_start_on_day(b: &BookingRule<'_>) -> bool
     ensures { (r : Values) → IsReadBooking r b.now
-        → result ≡ not (Words.is_text (r "booking_type") "0" || (Words.is_text (r "booking_type") "1" && Refusals.is_given (r "prior_notice_duration_max"))) }
+        → result ≡ not (Words.is_text (r "booking_type") "0"
+        || (Words.is_text (r "booking_type") "1" && Refusals.is_given
+        (r "prior_notice_duration_max"))) }
 {
     let is_shut = is_text(b.kind, "0") || (is_text(b.kind, "1") && is_given(b.duration_max));
     !is_shut
@@ -153,7 +153,8 @@ fn may_start_on_day(b: &BookingRule<'_>) -> bool
 // Whether a record names a service without a notice in earlier days.
 fn has_stray_service(b: &BookingRule<'_>) -> bool
     ensures { (r : Values) → IsReadBooking r b.now
-        → result ≡ (Refusals.is_given (r "prior_notice_service_id") && not (Words.is_text (r "booking_type") "2")) }
+        → result ≡ (Refusals.is_given (r "prior_notice_service_id") && not
+        (Words.is_text (r "booking_type") "2")) }
 {
     is_given(b.service) && !is_text(b.kind, "2")
 }
@@ -182,8 +183,10 @@ fn notice_rules(b: &BookingRule<'_>) -> [Option<FaultCode>; 7]
 
 // The rules of a record before those of its type.
 fn record_rules(b: &BookingRule<'_>, is_repeated: bool) -> [Option<FaultCode>; 3]
-    ensures { (earlier : List Values) (r : Values) → IsReadBooking r b.now → is_repeated ≡ repeats_id "booking_rule_id" earlier r
-        → result ++ (if Words.is_no (Grammars.choice 0 2) (r "booking_type") then [] else FeedRules.notice_rules r) ≡ FeedRules.booking_rules earlier r }
+    ensures { (earlier : List Values) (r : Values) → IsReadBooking r b.now
+        → is_repeated ≡ repeats_id "booking_rule_id" earlier r
+        → result ++ (if Words.is_no (Grammars.choice 0 2) (r "booking_type") then []
+        else FeedRules.notice_rules r) ≡ FeedRules.booking_rules earlier r }
 {
     [
         rule(FaultCode::EmptyField, is_empty(b.rule_id)),
@@ -199,8 +202,10 @@ fn add_booking_faults(
     b: &BookingRule<'_>,
     is_repeated: bool,
 ) -> Result<(), NoMemory>
-    ensures { (earlier : List Values) (r : Values) → IsReadBooking r b.now → is_repeated ≡ repeats_id "booking_rule_id" earlier r
-        → OnOk result (faults.new ≡ faults.old ++ faults_at Files.BookingRules row (FeedRules.booking_rules earlier r)) }
+    ensures { (earlier : List Values) (r : Values) → IsReadBooking r b.now
+        → is_repeated ≡ repeats_id "booking_rule_id" earlier r
+        → OnOk result (faults.new ≡ faults.old
+        ++ faults_at Files.BookingRules row (FeedRules.booking_rules earlier r)) }
 {
     let first_rules = record_rules(b, is_repeated);
     add_faults(faults, InputFile::BookingRules, row, &first_rules)?;
@@ -213,7 +218,9 @@ fn add_booking_faults(
 
 /// The faults of the records of booking_rules.txt by themselves.
 pub(crate) fn booking_rule_faults(alloc: Global, table: &Table) -> Result<Listed<Fault>, NoMemory>
-    ensures { IfOk result (λ faults. faults ≡ record_faults Files.BookingRules FeedRules.booking_rules (entries_of table.now)) }
+    ensures { IfOk result
+        (λ faults. faults ≡ record_faults Files.BookingRules FeedRules.booking_rules
+        (entries_of table.now)) }
 {
     let columns = booking_columns(table);
     let mut faults = Listed::new(alloc);

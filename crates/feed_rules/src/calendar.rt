@@ -64,7 +64,8 @@ fn week_columns(table: &Table) -> WeekColumns
 
 // The service of a record, its flags and its days.
 fn read_week<'a>(row: &RowView<'a>, columns: WeekColumns) -> ServiceWeek<'a>
-    ensures { (header : List (List ℕ)) → AreWeekColumns header columns → IsReadWeek (values_of header row.now.fields) result }
+    ensures { (header : List (List ℕ)) → AreWeekColumns header columns
+        → IsReadWeek (values_of header row.now.fields) result }
 {
     ServiceWeek {
         service: value(row, columns.service_id),
@@ -92,7 +93,8 @@ fn ends_early(start: Option<i32>, end: Option<i32>) -> bool
 
 // The rules of a service.
 fn calendar_rules(w: &ServiceWeek<'_>, is_repeated: bool) -> [Option<FaultCode>; 12]
-    ensures { (earlier : List Values) (r : Values) → IsReadWeek r w.now → is_repeated ≡ repeats_id "service_id" earlier r
+    ensures { (earlier : List Values) (r : Values) → IsReadWeek r w.now
+        → is_repeated ≡ repeats_id "service_id" earlier r
         → result ≡ FeedRules.calendar_rules earlier r }
 {
     [
@@ -113,7 +115,8 @@ fn calendar_rules(w: &ServiceWeek<'_>, is_repeated: bool) -> [Option<FaultCode>;
 
 /// The faults of the records of calendar.txt by themselves.
 pub(crate) fn calendar_faults(alloc: Global, table: &Table) -> Result<Listed<Fault>, NoMemory>
-    ensures { IfOk result (λ faults. faults ≡ record_faults Files.Calendar FeedRules.calendar_rules (entries_of table.now)) }
+    ensures { IfOk result (λ faults. faults ≡ record_faults Files.Calendar FeedRules.calendar_rules
+        (entries_of table.now)) }
 {
     let columns = week_columns(table);
     let mut faults = Listed::new(alloc);

@@ -25,8 +25,10 @@ fn date_rules(
     kind: &str,
     is_repeated: bool,
 ) -> [Option<FaultCode>; 4]
-    ensures { (earlier : List Values) (r : Values) → service.now ≡ r "service_id" → day ≡ Grammars.date (r "date") → kind.now ≡ r "exception_type"
-        → is_repeated ≡ repeats (are_same_pairs bytes_eq int_eq) (λ s. both (id (s "service_id")) (Grammars.date (s "date"))) earlier r
+    ensures { (earlier : List Values) (r : Values) → service.now ≡ r "service_id"
+        → day ≡ Grammars.date (r "date") → kind.now ≡ r "exception_type"
+        → is_repeated ≡ repeats (are_same_pairs bytes_eq int_eq)
+        (λ s. both (id (s "service_id")) (Grammars.date (s "date"))) earlier r
         → result ≡ FeedRules.calendar_date_rules earlier r }
 {
     [
@@ -39,7 +41,9 @@ fn date_rules(
 
 /// The faults of the records of calendar_dates.txt by themselves.
 pub(crate) fn calendar_date_faults(alloc: Global, table: &Table) -> Result<Listed<Fault>, NoMemory>
-    ensures { IfOk result (λ faults. faults ≡ record_faults Files.CalendarDates FeedRules.calendar_date_rules (entries_of table.now)) }
+    ensures { IfOk result
+        (λ faults. faults ≡ record_faults Files.CalendarDates FeedRules.calendar_date_rules
+        (entries_of table.now)) }
 {
     let service_id = table.column("service_id");
     let date_column = table.column("date");

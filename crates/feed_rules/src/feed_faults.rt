@@ -79,7 +79,8 @@ fn level_one(alloc: Global, raw: &RawFeed) -> Result<Listed<Fault>, NoMemory>
 
 // The tables that records name.
 fn link_tables(raw: &RawFeed) -> LinkTables<'_>
-    ensures { (geo : Geo) (folder : Folder) → ReadsFolder raw.now folder → LacksLocations folder → Levels.level_one raw.now ≡ []
+    ensures { (geo : Geo) (folder : Folder) → ReadsFolder raw.now folder → LacksLocations folder
+        → Levels.level_one raw.now ≡ []
         → AreTablesOf result (tables geo folder) }
 {
     LinkTables {
@@ -100,8 +101,10 @@ fn all_link_faults<'a>(
     ids: &LinkIds<'_>,
     order: &TripOrder<'a>,
 ) -> Result<Listed<Fault>, NoMemory>
-    ensures { IfOk result (λ faults. (geo : Geo) (folder : Folder) → ReadsFolder raw.now folder → Levels.level_one raw.now ≡ []
-        → StandFor ids.now (tables geo folder) → AreOrdersOf order.now (tables geo folder Files.StopTimes)
+    ensures { IfOk result (λ faults. (geo : Geo) (folder : Folder) → ReadsFolder raw.now folder
+        → Levels.level_one raw.now ≡ []
+        → StandFor ids.now (tables geo folder)
+        → AreOrdersOf order.now (tables geo folder Files.StopTimes)
         → faults ≡ flat_map (link_faults geo folder) Levels.feed_tables) }
 {
     let mut faults = Listed::new(alloc);
@@ -117,7 +120,8 @@ fn all_link_faults<'a>(
 
 // The faults between the tables, where there are none of the tables by themselves.
 fn level_two(alloc: Global, raw: &RawFeed) -> Result<Listed<Fault>, NoMemory>
-    ensures { IfOk result (λ faults. (geo : Geo) (folder : Folder) → ReadsFolder raw.now folder → LacksLocations folder → Levels.level_one raw.now ≡ []
+    ensures { IfOk result (λ faults. (geo : Geo) (folder : Folder) → ReadsFolder raw.now folder
+        → LacksLocations folder → Levels.level_one raw.now ≡ []
         → faults ≡ feed_level_two geo folder) }
 {
     let found = link_tables(raw);
@@ -132,7 +136,8 @@ fn level_two(alloc: Global, raw: &RawFeed) -> Result<Listed<Fault>, NoMemory>
 /// The fault list of the feed: of the tables by themselves, and where that is empty, of the tables beside each other. It is
 /// the whole list where locations.geojson, whose zones aren't judged here, is absent.
 pub fn faults(alloc: Global, raw: &RawFeed) -> Result<Listed<Fault>, NoMemory>
-    ensures { IfOk result (λ faults. (geo : Geo) (folder : Folder) → ReadsFolder raw.now folder → LacksLocations folder → faults ≡ feed_faults geo folder) }
+    ensures { IfOk result (λ faults. (geo : Geo) (folder : Folder) → ReadsFolder raw.now folder
+        → LacksLocations folder → faults ≡ feed_faults geo folder) }
 {
     let alone = level_one(alloc, raw)?;
     if !alone.as_slice().is_empty() {

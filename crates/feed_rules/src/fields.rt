@@ -5,14 +5,7 @@ ghost use Rattle.field_text.specs.Grammars;
 ghost use Rattle.feed_meaning.specs.FeedRules;
 
 use field_text::{read_count, read_date, read_degree, read_time};
-
-// The greatest stop_sequence.
-const MOST_SEQUENCE: u64 = 4_294_967_294;
-
-// 180 and 90 degrees, in units of 10^-15 degree.
-const MOST_LONGITUDE: i64 = 180_000_000_000_000_000;
-
-const MOST_LATITUDE: i64 = 90_000_000_000_000_000;
+use flex_model::limits::{GREATEST_LATITUDE, GREATEST_LONGITUDE, GREATEST_SEQUENCE};
 
 /// Whether a text has no value of its kind.
 pub(crate) fn is_no<T: Copy>(value: Option<T>) -> bool
@@ -39,7 +32,7 @@ pub(crate) fn date(text: &str) -> Option<i32>
 pub(crate) fn sequence(text: &str) -> Option<u32>
     ensures { result ≡ FeedRules.sequence text.now }
 {
-    match read_count(text, MOST_SEQUENCE) {
+    match read_count(text, GREATEST_SEQUENCE) {
         Ok(number) => Some(number as u32),
         Err(_) => None,
     }
@@ -66,12 +59,12 @@ pub(crate) fn choice(text: &str, least: u64, greatest: u64) -> Option<u32>
 pub(crate) fn latitude(text: &str) -> Option<i64>
     ensures { result ≡ Grammars.degree 90 text.now }
 {
-    read_degree(text, MOST_LATITUDE).ok()
+    read_degree(text, GREATEST_LATITUDE).ok()
 }
 
 /// A longitude, in units of 10^-15 degree.
 pub(crate) fn longitude(text: &str) -> Option<i64>
     ensures { result ≡ Grammars.degree 180 text.now }
 {
-    read_degree(text, MOST_LONGITUDE).ok()
+    read_degree(text, GREATEST_LONGITUDE).ok()
 }

@@ -60,7 +60,8 @@ fn needed_columns(file: InputFile) -> &'static [&'static str]
 
 // The faults of the records of a table, by the rules of its file. Other files than the twelve tables have no rules.
 fn row_faults(alloc: Global, file: InputFile, table: &Table) -> Result<Listed<Fault>, NoMemory>
-    ensures { IfOk result (λ faults. faults ≡ record_faults file (schema_of file).rules (entries_of table.now)) }
+    ensures { IfOk result (λ faults. faults ≡ record_faults file (schema_of file).rules
+        (entries_of table.now)) }
 {
     match file {
         InputFile::Agency => agency_faults(alloc, table),

@@ -28,9 +28,11 @@ pub(crate) fn file_link_faults<'a>(
     ids: &LinkIds<'_>,
     order: &TripOrder<'a>,
 ) -> Result<Listed<Fault>, NoMemory>
-    ensures { IfOk result (λ faults. (tables : Tables) → is_feed_table file ≡ true → StandFor ids.now tables → AreOrdersOf order.now (tables Files.StopTimes)
+    ensures { IfOk result (λ faults. (tables : Tables) → is_feed_table file ≡ true
+        → StandFor ids.now tables → AreOrdersOf order.now (tables Files.StopTimes)
         → HaveGroupIds file (entries_of table.now)
-        → faults ≡ flat_map (λ e. faults_at file e.row (links_of file tables e.values)) (entries_of table.now)) }
+        → faults ≡ flat_map (λ e. faults_at file e.row (links_of file tables e.values))
+        (entries_of table.now)) }
 {
     match file {
         InputFile::Trips => trip_link_faults(alloc, table, ids),

@@ -43,10 +43,13 @@ impl Model for FeedBytes {
 
     ghost Value = { List RawFile };
 
-    ghost view = { λ b. b.agency ∷ b.stops ∷ b.routes ∷ b.trips ∷ b.stop_times ∷ b.calendar ∷ b.calendar_dates ∷ b.locations ∷ b.location_groups
+    ghost view = { λ b. b.agency ∷ b.stops ∷ b.routes ∷ b.trips ∷ b.stop_times ∷ b.calendar
+        ∷ b.calendar_dates ∷ b.locations ∷ b.location_groups
         ∷ b.location_group_stops ∷ b.booking_rules ∷ b.transfers ∷ b.frequencies ∷ [] };
 
-    ghost invariant = { λ b. AreCounted b.agency b.stops b.routes b.trips b.stop_times b.calendar b.calendar_dates b.locations b.location_groups
+    ghost invariant =
+        { λ b. AreCounted b.agency b.stops b.routes b.trips b.stop_times b.calendar b.calendar_dates
+        b.locations b.location_groups
         b.location_group_stops b.booking_rules b.transfers b.frequencies };
 }
 
@@ -168,7 +171,8 @@ impl RawFeed {
 
     /// What a table of a feed was found to be, and None for other files.
     pub(crate) fn found(&self, file: InputFile) -> Option<&Found>
-        ensures { MatchOption result (is_feed_table file ≡ false) (λ found. found.now ≡ found_of self.now file) }
+        ensures { MatchOption result (is_feed_table file ≡ false)
+            (λ found. found.now ≡ found_of self.now file) }
     {
         match file {
             InputFile::Agency => Some(&self.agency),
@@ -191,7 +195,8 @@ impl RawFeed {
     /// have none.
     pub fn table(&self, file: InputFile) -> Option<&Table>
         ensures found { option_map (λ table. table.now) result ≡ table_of (found_of self.now file) }
-        ensures records { (folder : Folder) → ReadsFolder self.now folder → option_map (λ table. table.now) result ≡ table_in folder file }
+        ensures records { (folder : Folder) → ReadsFolder self.now folder
+            → option_map (λ table. table.now) result ≡ table_in folder file }
     {
         match self.found(file) {
             Some(Found::Read(table)) => Some(table),
@@ -203,7 +208,8 @@ impl RawFeed {
     /// without one byte order mark, isn't UTF-8, and where `geo_json::read_zones` refuses it. Two zones may have one id.
     pub fn zones(&self) -> Option<&Listed<ZoneRecord>>
         ensures found { option_map (λ zones. zones.now) result ≡ zones_in (found_zones self.now) }
-        ensures zones { (folder : Folder) → ReadsFolder self.now folder → AreZonesOf (folder Files.Locations) (option_map (λ zones. zones.now) result) }
+        ensures zones { (folder : Folder) → ReadsFolder self.now folder
+            → AreZonesOf (folder Files.Locations) (option_map (λ zones. zones.now) result) }
     {
         match &self.zones {
             FoundZones::Read(zones) => Some(zones),

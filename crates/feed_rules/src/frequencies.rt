@@ -14,12 +14,10 @@ use crate::keys::note_pair;
 use feed_meaning::{add_faults, is_bad, is_empty, rule, value};
 use feed_tables::Table;
 use field_text::read_count;
+use flex_model::limits::GREATEST_HEADWAY;
 use flex_model::{Fault, FaultCode, InputFile, Listed, NoMemory};
 use indexmap::IndexSet;
 use std::alloc::Global;
-
-// The longest headway: a day, in seconds.
-const MOST_HEADWAY: u64 = 86_400;
 
 // Whether both are there, and the end isn't after the start.
 fn is_backward(start: Option<u32>, end: Option<u32>) -> bool
@@ -35,7 +33,7 @@ fn is_backward(start: Option<u32>, end: Option<u32>) -> bool
 fn is_headway(text: &str) -> bool
     ensures { result ≡ FeedRules.is_positive_count 86400 text.now }
 {
-    match read_count(text, MOST_HEADWAY) {
+    match read_count(text, GREATEST_HEADWAY) {
         Ok(seconds) => seconds > 0,
         Err(_) => false,
     }
@@ -50,9 +48,11 @@ fn frequency_rules(
     exact: &str,
     is_repeated: bool,
 ) -> [Option<FaultCode>; 7]
-    ensures { (earlier : List Values) (r : Values) → trip.now ≡ r "trip_id" → start ≡ Grammars.time (r "start_time") → end ≡ Grammars.time (r "end_time")
+    ensures { (earlier : List Values) (r : Values) → trip.now ≡ r "trip_id"
+        → start ≡ Grammars.time (r "start_time") → end ≡ Grammars.time (r "end_time")
         → headway.now ≡ r "headway_secs" → exact.now ≡ r "exact_times"
-        → is_repeated ≡ repeats (are_same_pairs bytes_eq nat_eq) (λ s. both (id (s "trip_id")) (Grammars.time (s "start_time"))) earlier r
+        → is_repeated ≡ repeats (are_same_pairs bytes_eq nat_eq)
+        (λ s. both (id (s "trip_id")) (Grammars.time (s "start_time"))) earlier r
         → result ≡ FeedRules.frequency_rules earlier r }
 {
     [
@@ -68,7 +68,9 @@ fn frequency_rules(
 
 /// The faults of the records of frequencies.txt by themselves.
 pub(crate) fn frequency_faults(alloc: Global, table: &Table) -> Result<Listed<Fault>, NoMemory>
-    ensures { IfOk result (λ faults. faults ≡ record_faults Files.Frequencies FeedRules.frequency_rules (entries_of table.now)) }
+    ensures { IfOk result
+        (λ faults. faults ≡ record_faults Files.Frequencies FeedRules.frequency_rules
+        (entries_of table.now)) }
 {
     let trip_id = table.column("trip_id");
     let start_time = table.column("start_time");

@@ -15,8 +15,11 @@ pub(crate) fn note_pair<'a, T: Copy + Eq + Hash>(
     first: &'a str,
     second: Option<T>,
 ) -> Result<bool, NoMemory>
-    ensures repeated { IfOk result (λ is_repeated. is_repeated ≡ has_some_pair T.eq met.old.keys (both (id first.now) second)) }
-    ensures noted { OnOk result ((q : List ℕ × T) → has_pair T.eq met.new.keys q ≡ (has_pair T.eq met.old.keys q || is_pair T.eq q (both (id first.now) second))) }
+    ensures repeated { IfOk result (λ is_repeated. is_repeated ≡ has_some_pair T.eq met.old.keys
+        (both (id first.now) second)) }
+    ensures noted { OnOk result ((q : List ℕ × T)
+        → has_pair T.eq met.new.keys q ≡ (has_pair T.eq met.old.keys q || is_pair T.eq q
+        (both (id first.now) second))) }
 {
     let Some(second) = second else {
         return Ok(false);

@@ -45,7 +45,8 @@ fn known_ids_in<'a>(
 // The ids of the stops where one can't board, none where there is no table.
 fn known_stations<'a>(alloc: Global, stops: Option<&'a Table>) -> Result<Ids<'a>, NoMemory>
     ensures { IfOk result (λ ids. (tables : Tables) → tables Files.Stops ≡ records_in stops.entry
-        → (text : List ℕ) → is_given text ≡ true → list_any (bytes_eq text) ids ≡ is_station tables text) }
+        → (text : List ℕ) → is_given text ≡ true
+        → list_any (bytes_eq text) ids ≡ is_station tables text) }
 {
     match stops {
         Some(stops) => stations_in(alloc, stops),
@@ -55,7 +56,8 @@ fn known_stations<'a>(alloc: Global, stops: Option<&'a Table>) -> Result<Ids<'a>
 
 /// The ids of the tables that records name, without those of any features.
 pub(crate) fn link_ids<'a>(alloc: Global, found: &LinkTables<'a>) -> Result<LinkIds<'a>, NoMemory>
-    ensures { IfOk result (λ ids. (tables : Tables) → AreTablesOf found.now tables → StandFor ids tables) }
+    ensures { IfOk result (λ ids. (tables : Tables) → AreTablesOf found.now tables
+        → StandFor ids tables) }
 {
     let routes = known_ids_in(alloc, found.routes, "route_id")?;
     let calendar = known_ids_in(alloc, found.calendar, "service_id")?;

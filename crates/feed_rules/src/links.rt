@@ -50,14 +50,16 @@ fn is_known(ids: &Ids<'_>, text: &str) -> bool
 
 /// Whether a text is given and no service of either calendar.
 pub(crate) fn is_unknown_service(ids: &LinkIds<'_>, service: &str) -> bool
-    ensures { (tables : Tables) → StandFor ids.now tables → result ≡ FeedLinks.is_unknown_service tables service.now }
+    ensures { (tables : Tables) → StandFor ids.now tables
+        → result ≡ FeedLinks.is_unknown_service tables service.now }
 {
     is_unknown(&ids.calendar, service) && is_unknown(&ids.dates, service)
 }
 
 // The rules of a trip beside the other tables.
 fn trip_links(route: &str, service: &str, ids: &LinkIds<'_>) -> [Option<FaultCode>; 2]
-    ensures { (tables : Tables) (r : Values) → StandFor ids.now tables → route.now ≡ r "route_id" → service.now ≡ r "service_id" → result ≡ FeedLinks.trip_links tables r }
+    ensures { (tables : Tables) (r : Values) → StandFor ids.now tables → route.now ≡ r "route_id"
+        → service.now ≡ r "service_id" → result ≡ FeedLinks.trip_links tables r }
 {
     [
         rule(FaultCode::UnknownId, is_unknown(&ids.routes, route)),
@@ -72,7 +74,8 @@ pub(crate) fn trip_link_faults(
     ids: &LinkIds<'_>,
 ) -> Result<Listed<Fault>, NoMemory>
     ensures { IfOk result (λ faults. (tables : Tables) → StandFor ids.now tables
-        → faults ≡ flat_map (λ e. faults_at Files.Trips e.row (FeedLinks.trip_links tables e.values)) (entries_of trips.now)) }
+        → faults ≡ flat_map (λ e. faults_at Files.Trips e.row
+        (FeedLinks.trip_links tables e.values)) (entries_of trips.now)) }
 {
     let route_id = trips.column("route_id");
     let service_id = trips.column("service_id");
@@ -92,7 +95,8 @@ fn stop_time_links<'a>(
     ids: &LinkIds<'_>,
     order: &TripOrder<'a>,
 ) -> [Option<FaultCode>; 9]
-    ensures { (tables : Tables) (r : Values) → IsRead r s.now → StandFor ids.now tables → AreOrdersOf order.now (tables Files.StopTimes)
+    ensures { (tables : Tables) (r : Values) → IsRead r s.now → StandFor ids.now tables
+        → AreOrdersOf order.now (tables Files.StopTimes)
         → result ≡ FeedLinks.stop_time_links tables r }
 {
     [
@@ -121,8 +125,10 @@ pub(crate) fn stop_time_link_faults<'a>(
     ids: &LinkIds<'_>,
     order: &TripOrder<'a>,
 ) -> Result<Listed<Fault>, NoMemory>
-    ensures { IfOk result (λ faults. (tables : Tables) → StandFor ids.now tables → AreOrdersOf order.now (tables Files.StopTimes)
-        → faults ≡ flat_map (λ e. faults_at Files.StopTimes e.row (FeedLinks.stop_time_links tables e.values)) (entries_of stop_times.now)) }
+    ensures { IfOk result (λ faults. (tables : Tables) → StandFor ids.now tables
+        → AreOrdersOf order.now (tables Files.StopTimes)
+        → faults ≡ flat_map (λ e. faults_at Files.StopTimes e.row
+        (FeedLinks.stop_time_links tables e.values)) (entries_of stop_times.now)) }
 {
     let columns = stop_time_columns(stop_times);
     let mut faults = Listed::new(alloc);

@@ -13,7 +13,8 @@ use std::alloc::Global;
 
 // The rules of a member of a location group.
 fn group_stop_rules(group: &str, stop: &str) -> [Option<FaultCode>; 2]
-    ensures { (earlier : List Values) (r : Values) → group.now ≡ r "location_group_id" → stop.now ≡ r "stop_id" → result ≡ FeedRules.group_stop_rules earlier r }
+    ensures { (earlier : List Values) (r : Values) → group.now ≡ r "location_group_id"
+        → stop.now ≡ r "stop_id" → result ≡ FeedRules.group_stop_rules earlier r }
 {
     [
         rule(FaultCode::EmptyField, is_empty(group)),
@@ -23,7 +24,9 @@ fn group_stop_rules(group: &str, stop: &str) -> [Option<FaultCode>; 2]
 
 /// The faults of the records of location_group_stops.txt by themselves.
 pub(crate) fn group_stop_faults(alloc: Global, table: &Table) -> Result<Listed<Fault>, NoMemory>
-    ensures { IfOk result (λ faults. faults ≡ record_faults Files.LocationGroupStops FeedRules.group_stop_rules (entries_of table.now)) }
+    ensures { IfOk result
+        (λ faults. faults ≡ record_faults Files.LocationGroupStops FeedRules.group_stop_rules
+        (entries_of table.now)) }
 {
     let location_group_id = table.column("location_group_id");
     let stop_id = table.column("stop_id");

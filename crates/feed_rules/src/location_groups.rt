@@ -13,7 +13,8 @@ use std::alloc::Global;
 
 // The rules of a location group.
 fn group_rules(group: &str, is_repeated: bool) -> [Option<FaultCode>; 2]
-    ensures { (earlier : List Values) (r : Values) → group.now ≡ r "location_group_id" → is_repeated ≡ repeats_id "location_group_id" earlier r
+    ensures { (earlier : List Values) (r : Values) → group.now ≡ r "location_group_id"
+        → is_repeated ≡ repeats_id "location_group_id" earlier r
         → result ≡ FeedRules.group_rules earlier r }
 {
     [
@@ -24,7 +25,9 @@ fn group_rules(group: &str, is_repeated: bool) -> [Option<FaultCode>; 2]
 
 /// The faults of the records of location_groups.txt by themselves.
 pub(crate) fn group_faults(alloc: Global, table: &Table) -> Result<Listed<Fault>, NoMemory>
-    ensures { IfOk result (λ faults. faults ≡ record_faults Files.LocationGroups FeedRules.group_rules (entries_of table.now)) }
+    ensures { IfOk result
+        (λ faults. faults ≡ record_faults Files.LocationGroups FeedRules.group_rules
+        (entries_of table.now)) }
 {
     let location_group_id = table.column("location_group_id");
     let mut faults = Listed::new(alloc);

@@ -56,7 +56,8 @@ pub(crate) fn departure(s: &StopTime<'_>) -> Option<u32>
 
 // Notes one more record.
 fn note_record<'a>(order: &mut TripOrder<'a>, s: &StopTime<'a>) -> Result<(), NoMemory>
-    ensures { OnOk result ((records : List Values) (r : Values) → IsRead r s.now → AreOrdersOf order.old records → AreOrdersOf order.new (records ++ r ∷ [])) }
+    ensures { OnOk result ((records : List Values) (r : Values) → IsRead r s.now
+        → AreOrdersOf order.old records → AreOrdersOf order.new (records ++ r ∷ [])) }
 {
     if has_window(s) {
         return Ok(());
@@ -74,7 +75,8 @@ pub(crate) fn trip_order<'a>(
     alloc: Global,
     stop_times: &'a Table,
 ) -> Result<TripOrder<'a>, NoMemory>
-    ensures { IfOk result (λ order. AreOrdersOf order (map (λ e. e.values) (entries_of stop_times.now))) }
+    ensures { IfOk result (λ order. AreOrdersOf order
+        (map (λ e. e.values) (entries_of stop_times.now))) }
 {
     let columns = stop_time_columns(stop_times);
     let mut order = TripOrder {
@@ -90,7 +92,8 @@ pub(crate) fn trip_order<'a>(
 
 /// Whether a record is the first or the last one without window of its trip.
 pub(crate) fn is_end<'a>(s: &StopTime<'a>, order: &TripOrder<'a>) -> bool
-    ensures { (records : List Values) (r : Values) → IsRead r s.now → AreOrdersOf order.now records → result ≡ FeedLinks.is_end records r }
+    ensures { (records : List Values) (r : Values) → IsRead r s.now → AreOrdersOf order.now records
+        → result ≡ FeedLinks.is_end records r }
 {
     last_before(&order.windowless, s.trip, s.number).is_none()
         || !has_after(&order.windowless, s.trip, s.number)
@@ -99,7 +102,9 @@ pub(crate) fn is_end<'a>(s: &StopTime<'a>, order: &TripOrder<'a>) -> bool
 /// Whether the nearest timed record before this one departs after this one's arrival.
 pub(crate) fn is_overtaken<'a>(s: &StopTime<'a>, order: &TripOrder<'a>) -> bool
     ensures { (records : List Values) (r : Values) → IsRead r s.now → AreOrdersOf order.now records
-        → result ≡ stand FeedRules.is_later (option_and_then FeedLinks.departure (nearest_before (filter FeedLinks.is_timed records) r)) (FeedLinks.arrival r) }
+        → result ≡ stand FeedRules.is_later
+        (option_and_then FeedLinks.departure (nearest_before (filter FeedLinks.is_timed records) r))
+        (FeedLinks.arrival r) }
 {
     match last_before(&order.timed, s.trip, s.number) {
         Some(departs) => is_later(departs, arrival(s)),

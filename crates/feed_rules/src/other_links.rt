@@ -21,14 +21,16 @@ use std::alloc::Global;
 // Whether a text is the id of a stop or of a feature.
 fn is_shared(ids: &LinkIds<'_>, text: &str) -> bool
     ensures { (tables : Tables) → StandFor ids.now tables → is_given text.now ≡ true
-        → result ≡ (is_in tables Files.Stops "stop_id" text.now || is_in tables Files.Locations "id" text.now) }
+        → result ≡ (is_in tables Files.Stops "stop_id" text.now
+        || is_in tables Files.Locations "id" text.now) }
 {
     ids.stops.has(text) || ids.zones.has(text)
 }
 
 // The rules of a location group beside the other tables.
 fn group_links(group: &str, ids: &LinkIds<'_>) -> [Option<FaultCode>; 1]
-    ensures { (tables : Tables) (r : Values) → StandFor ids.now tables → group.now ≡ r "location_group_id" → is_given (r "location_group_id") ≡ true
+    ensures { (tables : Tables) (r : Values) → StandFor ids.now tables
+        → group.now ≡ r "location_group_id" → is_given (r "location_group_id") ≡ true
         → result ≡ FeedLinks.group_links tables r }
 {
     [rule(FaultCode::SharedId, is_shared(ids, group))]
@@ -40,8 +42,10 @@ pub(crate) fn group_link_faults(
     groups: &Table,
     ids: &LinkIds<'_>,
 ) -> Result<Listed<Fault>, NoMemory>
-    ensures { IfOk result (λ faults. (tables : Tables) → StandFor ids.now tables → HaveGroupIds Files.LocationGroups (entries_of groups.now)
-        → faults ≡ flat_map (λ e. faults_at Files.LocationGroups e.row (FeedLinks.group_links tables e.values)) (entries_of groups.now)) }
+    ensures { IfOk result (λ faults. (tables : Tables) → StandFor ids.now tables
+        → HaveGroupIds Files.LocationGroups (entries_of groups.now)
+        → faults ≡ flat_map (λ e. faults_at Files.LocationGroups e.row
+        (FeedLinks.group_links tables e.values)) (entries_of groups.now)) }
 {
     let location_group_id = groups.column("location_group_id");
     let mut faults = Listed::new(alloc);
@@ -55,7 +59,8 @@ pub(crate) fn group_link_faults(
 
 // The rules of a member of a location group beside the other tables.
 fn group_stop_links(group: &str, stop: &str, ids: &LinkIds<'_>) -> [Option<FaultCode>; 2]
-    ensures { (tables : Tables) (r : Values) → StandFor ids.now tables → group.now ≡ r "location_group_id" → stop.now ≡ r "stop_id"
+    ensures { (tables : Tables) (r : Values) → StandFor ids.now tables
+        → group.now ≡ r "location_group_id" → stop.now ≡ r "stop_id"
         → result ≡ FeedLinks.group_stop_links tables r }
 {
     [
@@ -71,7 +76,8 @@ pub(crate) fn group_stop_link_faults(
     ids: &LinkIds<'_>,
 ) -> Result<Listed<Fault>, NoMemory>
     ensures { IfOk result (λ faults. (tables : Tables) → StandFor ids.now tables
-        → faults ≡ flat_map (λ e. faults_at Files.LocationGroupStops e.row (FeedLinks.group_stop_links tables e.values)) (entries_of group_stops.now)) }
+        → faults ≡ flat_map (λ e. faults_at Files.LocationGroupStops e.row
+        (FeedLinks.group_stop_links tables e.values)) (entries_of group_stops.now)) }
 {
     let location_group_id = group_stops.column("location_group_id");
     let stop_id = group_stops.column("stop_id");
@@ -92,7 +98,9 @@ pub(crate) fn group_stop_link_faults(
 
 // The rules of a booking rule beside the other tables.
 fn booking_rule_links(service: &str, ids: &LinkIds<'_>) -> [Option<FaultCode>; 1]
-    ensures { (tables : Tables) (r : Values) → StandFor ids.now tables → service.now ≡ r "prior_notice_service_id" → result ≡ FeedLinks.booking_rule_links tables r }
+    ensures { (tables : Tables) (r : Values) → StandFor ids.now tables
+        → service.now ≡ r "prior_notice_service_id"
+        → result ≡ FeedLinks.booking_rule_links tables r }
 {
     [rule(FaultCode::UnknownId, is_unknown_service(ids, service))]
 }
@@ -104,7 +112,8 @@ pub(crate) fn booking_rule_link_faults(
     ids: &LinkIds<'_>,
 ) -> Result<Listed<Fault>, NoMemory>
     ensures { IfOk result (λ faults. (tables : Tables) → StandFor ids.now tables
-        → faults ≡ flat_map (λ e. faults_at Files.BookingRules e.row (FeedLinks.booking_rule_links tables e.values)) (entries_of booking_rules.now)) }
+        → faults ≡ flat_map (λ e. faults_at Files.BookingRules e.row
+        (FeedLinks.booking_rule_links tables e.values)) (entries_of booking_rules.now)) }
 {
     let service_id = booking_rules.column("prior_notice_service_id");
     let mut faults = Listed::new(alloc);
@@ -118,7 +127,8 @@ pub(crate) fn booking_rule_link_faults(
 
 // The rules of a change between two stops beside the other tables.
 fn change_links(t: &Transfer<'_>, ids: &LinkIds<'_>) -> [Option<FaultCode>; 2]
-    ensures { (tables : Tables) (r : Values) → IsReadTransfer r t.now → StandFor ids.now tables → result ≡ FeedLinks.change_links tables r }
+    ensures { (tables : Tables) (r : Values) → IsReadTransfer r t.now → StandFor ids.now tables
+        → result ≡ FeedLinks.change_links tables r }
 {
     [
         rule(FaultCode::UnknownId, is_unknown(&ids.stops, t.from)),
@@ -133,7 +143,8 @@ pub(crate) fn transfer_link_faults(
     ids: &LinkIds<'_>,
 ) -> Result<Listed<Fault>, NoMemory>
     ensures { IfOk result (λ faults. (tables : Tables) → StandFor ids.now tables
-        → faults ≡ flat_map (λ e. faults_at Files.Transfers e.row (FeedLinks.transfer_links tables e.values)) (entries_of transfers.now)) }
+        → faults ≡ flat_map (λ e. faults_at Files.Transfers e.row
+        (FeedLinks.transfer_links tables e.values)) (entries_of transfers.now)) }
 {
     let columns = transfer_columns(transfers);
     let mut faults = Listed::new(alloc);
@@ -150,7 +161,8 @@ pub(crate) fn transfer_link_faults(
 
 // The rules of a range of repeated trips beside the other tables.
 fn frequency_links(trip: &str, ids: &LinkIds<'_>) -> [Option<FaultCode>; 1]
-    ensures { (tables : Tables) (r : Values) → StandFor ids.now tables → trip.now ≡ r "trip_id" → result ≡ FeedLinks.frequency_links tables r }
+    ensures { (tables : Tables) (r : Values) → StandFor ids.now tables → trip.now ≡ r "trip_id"
+        → result ≡ FeedLinks.frequency_links tables r }
 {
     [rule(FaultCode::UnknownId, is_unknown(&ids.trips, trip))]
 }
@@ -162,7 +174,8 @@ pub(crate) fn frequency_link_faults(
     ids: &LinkIds<'_>,
 ) -> Result<Listed<Fault>, NoMemory>
     ensures { IfOk result (λ faults. (tables : Tables) → StandFor ids.now tables
-        → faults ≡ flat_map (λ e. faults_at Files.Frequencies e.row (FeedLinks.frequency_links tables e.values)) (entries_of frequencies.now)) }
+        → faults ≡ flat_map (λ e. faults_at Files.Frequencies e.row
+        (FeedLinks.frequency_links tables e.values)) (entries_of frequencies.now)) }
 {
     let trip_id = frequencies.column("trip_id");
     let mut faults = Listed::new(alloc);

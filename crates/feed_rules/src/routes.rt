@@ -13,7 +13,8 @@ use std::alloc::Global;
 
 // The rules of a route.
 fn route_rules(route: &str, is_repeated: bool) -> [Option<FaultCode>; 2]
-    ensures { (earlier : List Values) (r : Values) → route.now ≡ r "route_id" → is_repeated ≡ repeats_id "route_id" earlier r
+    ensures { (earlier : List Values) (r : Values) → route.now ≡ r "route_id"
+        → is_repeated ≡ repeats_id "route_id" earlier r
         → result ≡ FeedRules.route_rules earlier r }
 {
     [
@@ -24,7 +25,8 @@ fn route_rules(route: &str, is_repeated: bool) -> [Option<FaultCode>; 2]
 
 /// The faults of the records of routes.txt by themselves.
 pub(crate) fn route_faults(alloc: Global, table: &Table) -> Result<Listed<Fault>, NoMemory>
-    ensures { IfOk result (λ faults. faults ≡ record_faults Files.Routes FeedRules.route_rules (entries_of table.now)) }
+    ensures { IfOk result (λ faults. faults ≡ record_faults Files.Routes FeedRules.route_rules
+        (entries_of table.now)) }
 {
     let route_id = table.column("route_id");
     let mut faults = Listed::new(alloc);

@@ -19,8 +19,10 @@ pub(crate) fn note_first<'a>(
     number: Option<u32>,
     departs: Option<u32>,
 ) -> Result<(), NoMemory>
-    ensures { OnOk result ((records : List Values) (r : Values) → HoldsFirst order.old records → trip.now ≡ r "trip_id"
-        → number ≡ sequence (r "stop_sequence") → departs ≡ departure r → HoldsFirst order.new (records ++ r ∷ [])) }
+    ensures { OnOk result ((records : List Values) (r : Values) → HoldsFirst order.old records
+        → trip.now ≡ r "trip_id"
+        → number ≡ sequence (r "stop_sequence") → departs ≡ departure r
+        → HoldsFirst order.new (records ++ r ∷ [])) }
 {
     let Some(number) = number else {
         return Ok(());
@@ -38,10 +40,14 @@ pub(crate) fn last_before<'a>(
     trip: &'a str,
     number: Option<u32>,
 ) -> Option<Option<u32>>
-    ensures nearest { (records : List Values) (r : Values) → HoldsFirst order.now records → trip.now ≡ r "trip_id"
-        → number ≡ sequence (r "stop_sequence") → result ≡ option_map departure (nearest_before records r) }
-    ensures some { (records : List Values) (r : Values) → HoldsFirst order.now records → trip.now ≡ r "trip_id"
-        → number ≡ sequence (r "stop_sequence") → is_some result ≡ list_any (λ s. is_before s r) records }
+    ensures nearest { (records : List Values) (r : Values) → HoldsFirst order.now records
+        → trip.now ≡ r "trip_id"
+        → number ≡ sequence (r "stop_sequence")
+        → result ≡ option_map departure (nearest_before records r) }
+    ensures some { (records : List Values) (r : Values) → HoldsFirst order.now records
+        → trip.now ≡ r "trip_id"
+        → number ≡ sequence (r "stop_sequence")
+        → is_some result ≡ list_any (λ s. is_before s r) records }
 {
     let Some(number) = number else {
         return None;
@@ -58,7 +64,8 @@ pub(crate) fn has_after<'a>(
     trip: &'a str,
     number: Option<u32>,
 ) -> bool
-    ensures { (records : List Values) (r : Values) → HoldsFirst order.now records → trip.now ≡ r "trip_id"
+    ensures { (records : List Values) (r : Values) → HoldsFirst order.now records
+        → trip.now ≡ r "trip_id"
         → number ≡ sequence (r "stop_sequence") → result ≡ list_any (λ s. is_before r s) records }
 {
     let Some(number) = number else {

@@ -16,8 +16,10 @@ use std::alloc::Global;
 
 /// The ids of the stops where one can't board, as stations.
 pub(crate) fn stations_in<'a>(alloc: Global, stops: &'a Table) -> Result<Ids<'a>, NoMemory>
-    ensures { IfOk result (λ ids. (tables : Tables) → tables Files.Stops ≡ map (λ e. e.values) (entries_of stops.now)
-        → (text : List ℕ) → is_given text ≡ true → list_any (bytes_eq text) ids ≡ is_station tables text) }
+    ensures { IfOk result (λ ids. (tables : Tables)
+        → tables Files.Stops ≡ map (λ e. e.values) (entries_of stops.now)
+        → (text : List ℕ) → is_given text ≡ true
+        → list_any (bytes_eq text) ids ≡ is_station tables text) }
 {
     let stop_id = stops.column("stop_id");
     let location_type = stops.column("location_type");

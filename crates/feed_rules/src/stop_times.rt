@@ -86,7 +86,8 @@ pub(crate) fn stop_time_columns(table: &Table) -> StopTimeColumns
 
 /// The texts of a record, and their values.
 pub(crate) fn read_stop_time<'a>(row: &RowView<'a>, columns: StopTimeColumns) -> StopTime<'a>
-    ensures { (header : List (List ℕ)) → AreColumns header columns → IsRead (values_of header row.now.fields) result }
+    ensures { (header : List (List ℕ)) → AreColumns header columns
+        → IsRead (values_of header row.now.fields) result }
 {
     let sequence = value(row, columns.stop_sequence);
     let arrival = value(row, columns.arrival_time);
@@ -152,7 +153,8 @@ pub(crate) fn has_time(s: &StopTime<'_>) -> bool
 // The rules of a record of stop_times.txt.
 fn stop_time_rules(s: &StopTime<'_>, is_repeated: bool) -> [Option<FaultCode>; 18]
     ensures { (earlier : List Values) (r : Values) → IsRead r s.now
-        → is_repeated ≡ repeats (are_same_pairs bytes_eq nat_eq) (λ v. both (id (v "trip_id")) (sequence (v "stop_sequence"))) earlier r
+        → is_repeated ≡ repeats (are_same_pairs bytes_eq nat_eq)
+        (λ v. both (id (v "trip_id")) (sequence (v "stop_sequence"))) earlier r
         → result ≡ FeedRules.stop_time_rules earlier r }
 {
     let has_window = has_window(s);
@@ -196,7 +198,9 @@ fn stop_time_rules(s: &StopTime<'_>, is_repeated: bool) -> [Option<FaultCode>; 1
 
 /// The faults of the records of stop_times.txt by themselves.
 pub(crate) fn stop_time_faults(alloc: Global, table: &Table) -> Result<Listed<Fault>, NoMemory>
-    ensures { IfOk result (λ faults. faults ≡ record_faults Files.StopTimes FeedRules.stop_time_rules (entries_of table.now)) }
+    ensures { IfOk result
+        (λ faults. faults ≡ record_faults Files.StopTimes FeedRules.stop_time_rules
+        (entries_of table.now)) }
 {
     let columns = stop_time_columns(table);
     let mut faults = Listed::new(alloc);

@@ -29,8 +29,10 @@ fn stop_rules(
     lat: &str,
     lon: &str,
 ) -> [Option<FaultCode>; 7]
-    ensures { (earlier : List Values) (r : Values) → stop.now ≡ r "stop_id" → is_repeated ≡ repeats_id "stop_id" earlier r
-        → kind.now ≡ r "location_type" → lat.now ≡ r "stop_lat" → lon.now ≡ r "stop_lon" → result ≡ FeedRules.stop_rules earlier r }
+    ensures { (earlier : List Values) (r : Values) → stop.now ≡ r "stop_id"
+        → is_repeated ≡ repeats_id "stop_id" earlier r
+        → kind.now ≡ r "location_type" → lat.now ≡ r "stop_lat" → lon.now ≡ r "stop_lon"
+        → result ≡ FeedRules.stop_rules earlier r }
 {
     let is_boarding = is_boarding(kind);
     [
@@ -46,7 +48,8 @@ fn stop_rules(
 
 /// The faults of the records of stops.txt by themselves.
 pub(crate) fn stop_faults(alloc: Global, table: &Table) -> Result<Listed<Fault>, NoMemory>
-    ensures { IfOk result (λ faults. faults ≡ record_faults Files.Stops FeedRules.stop_rules (entries_of table.now)) }
+    ensures { IfOk result (λ faults. faults ≡ record_faults Files.Stops FeedRules.stop_rules
+        (entries_of table.now)) }
 {
     let stop_id = table.column("stop_id");
     let location_type = table.column("location_type");

@@ -15,12 +15,10 @@ use crate::fields::choice;
 use feed_meaning::{add_faults, is_bad, is_empty, is_given, is_text, rule, value};
 use feed_tables::{RowView, Table};
 use field_text::read_count;
+use flex_model::limits::GREATEST_CHANGE;
 use flex_model::{Fault, FaultCode, InputFile, Listed, NoMemory};
 use indexmap::IndexSet;
 use std::alloc::Global;
-
-// The longest minimum time of a transfer: a day, in seconds.
-const MOST_SECONDS: u64 = 86_400;
 
 /// The places of the columns of transfers.txt, where it has them.
 #[derive(Clone, Copy)]
@@ -70,12 +68,13 @@ pub(crate) fn transfer_columns(table: &Table) -> TransferColumns
 fn transfer_seconds(text: &str) -> Option<u64>
     ensures { result ≡ count 86400 text.now }
 {
-    read_count(text, MOST_SECONDS).ok()
+    read_count(text, GREATEST_CHANGE).ok()
 }
 
 /// The texts of a record, and their values.
 pub(crate) fn read_transfer<'a>(row: &RowView<'a>, columns: TransferColumns) -> Transfer<'a>
-    ensures { (header : List (List ℕ)) → AreTransferColumns header columns → IsReadTransfer (values_of header row.now.fields) result }
+    ensures { (header : List (List ℕ)) → AreTransferColumns header columns
+        → IsReadTransfer (values_of header row.now.fields) result }
 {
     let kind = value(row, columns.transfer_type);
     let least_time = value(row, columns.min_transfer_time);
@@ -111,7 +110,8 @@ fn note_stops<'a>(
     from: &'a str,
     to: &'a str,
 ) -> Result<bool, NoMemory>
-    ensures repeated { IfOk result (λ is_repeated. is_repeated ≡ has_some_pair bytes_eq (texts_of met.old.keys) (both (id from.now) (id to.now))) }
+    ensures repeated { IfOk result (λ is_repeated. is_repeated ≡ has_some_pair bytes_eq
+        (texts_of met.old.keys) (both (id from.now) (id to.now))) }
     ensures noted { OnOk result ((q : List ℕ × List ℕ) → has_pair bytes_eq (texts_of met.new.keys) q
         ≡ (has_pair bytes_eq (texts_of met.old.keys) q || is_pair bytes_eq q (both (id from.now) (id to.now)))) }
 {
@@ -127,9 +127,12 @@ fn note_change<'a>(
     met: &mut IndexSet<(&'a str, &'a str)>,
     t: &Transfer<'a>,
 ) -> Result<bool, NoMemory>
-    ensures repeated { (earlier : List Values) (r : Values) → IsReadTransfer r t.now → AreStopsMet met.old.keys (changes earlier)
-        → IfOk result (λ is_repeated. is_repeated ≡ (not (FeedRules.is_passed_over r) && repeats_ids "from_stop_id" "to_stop_id" (changes earlier) r)) }
-    ensures noted { (earlier : List Values) (r : Values) → IsReadTransfer r t.now → AreStopsMet met.old.keys (changes earlier)
+    ensures repeated { (earlier : List Values) (r : Values) → IsReadTransfer r t.now
+        → AreStopsMet met.old.keys (changes earlier)
+        → IfOk result (λ is_repeated. is_repeated ≡ (not (FeedRules.is_passed_over r)
+        && repeats_ids "from_stop_id" "to_stop_id" (changes earlier) r)) }
+    ensures noted { (earlier : List Values) (r : Values) → IsReadTransfer r t.now
+        → AreStopsMet met.old.keys (changes earlier)
         → OnOk result (AreStopsMet met.new.keys (changes (earlier ++ r ∷ []))) }
 {
     if is_passed_over(t) {
@@ -140,7 +143,8 @@ fn note_change<'a>(
 
 // The rules of a change between two stops.
 fn change_rules(t: &Transfer<'_>, is_repeated: bool) -> [Option<FaultCode>; 4]
-    ensures { (earlier : List Values) (r : Values) → IsReadTransfer r t.now → is_repeated ≡ repeats_ids "from_stop_id" "to_stop_id" earlier r
+    ensures { (earlier : List Values) (r : Values) → IsReadTransfer r t.now
+        → is_repeated ≡ repeats_ids "from_stop_id" "to_stop_id" earlier r
         → result ≡ FeedRules.change_rules earlier r }
 {
     [
@@ -162,8 +166,10 @@ fn add_transfer_faults(
     is_repeated: bool,
 ) -> Result<(), NoMemory>
     ensures { (earlier : List Values) (r : Values) → IsReadTransfer r t.now
-        → is_repeated ≡ (not (FeedRules.is_passed_over r) && repeats_ids "from_stop_id" "to_stop_id" (changes earlier) r)
-        → OnOk result (faults.new ≡ faults.old ++ faults_at Files.Transfers row (FeedRules.transfer_rules earlier r)) }
+        → is_repeated ≡ (not (FeedRules.is_passed_over r) && repeats_ids "from_stop_id" "to_stop_id"
+        (changes earlier) r)
+        → OnOk result (faults.new ≡ faults.old
+        ++ faults_at Files.Transfers row (FeedRules.transfer_rules earlier r)) }
 {
     let kind_rules = [rule(FaultCode::BadEnum, is_bad(t.kind, t.kind_number))];
     add_faults(faults, InputFile::Transfers, row, &kind_rules)?;
@@ -176,7 +182,8 @@ fn add_transfer_faults(
 
 /// The faults of the records of transfers.txt by themselves.
 pub(crate) fn transfer_faults(alloc: Global, table: &Table) -> Result<Listed<Fault>, NoMemory>
-    ensures { IfOk result (λ faults. faults ≡ record_faults Files.Transfers FeedRules.transfer_rules (entries_of table.now)) }
+    ensures { IfOk result (λ faults. faults ≡ record_faults Files.Transfers FeedRules.transfer_rules
+        (entries_of table.now)) }
 {
     let columns = transfer_columns(table);
     let mut faults = Listed::new(alloc);

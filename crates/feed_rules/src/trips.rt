@@ -13,7 +13,8 @@ use std::alloc::Global;
 
 // The rules of a trip.
 fn trip_rules(trip: &str, route: &str, service: &str, is_repeated: bool) -> [Option<FaultCode>; 4]
-    ensures { (earlier : List Values) (r : Values) → trip.now ≡ r "trip_id" → route.now ≡ r "route_id" → service.now ≡ r "service_id"
+    ensures { (earlier : List Values) (r : Values) → trip.now ≡ r "trip_id"
+        → route.now ≡ r "route_id" → service.now ≡ r "service_id"
         → is_repeated ≡ repeats_id "trip_id" earlier r → result ≡ FeedRules.trip_rules earlier r }
 {
     [
@@ -26,7 +27,8 @@ fn trip_rules(trip: &str, route: &str, service: &str, is_repeated: bool) -> [Opt
 
 /// The faults of the records of trips.txt by themselves.
 pub(crate) fn trip_faults(alloc: Global, table: &Table) -> Result<Listed<Fault>, NoMemory>
-    ensures { IfOk result (λ faults. faults ≡ record_faults Files.Trips FeedRules.trip_rules (entries_of table.now)) }
+    ensures { IfOk result (λ faults. faults ≡ record_faults Files.Trips FeedRules.trip_rules
+        (entries_of table.now)) }
 {
     let trip_id = table.column("trip_id");
     let route_id = table.column("route_id");

@@ -29,10 +29,10 @@ direct_journeys feed times days query rides triple plain no_walks no_transfers =
 
 -- of two single rides the one that arrives no later covers the other
 covers_later : (a b : Ride) → a.arrives ≤ℤ b.arrives → Covers (direct_triple a) (direct_triple b)
-covers_later a b le = record { deadline = tt; arrival = le; transfers = omega arith }
+covers_later a b le = record { deadline = tt; arrival = le; transfers = omega arith; walk = omega arith }
 
 at_once : (a b : Ride) → a.arrives ≤ℤ b.arrives → b.arrives ≤ℤ a.arrives → direct_triple a ≡ direct_triple b
-at_once a b le ge = let e : a.arrives ≡ b.arrives = omega (arith, ints) in ap (λ (arrival : ℤ). let t : Triple = record { deadline = Never; arrival = arrival; transfers = 0 } in t) e
+at_once a b le ge = let e : a.arrives ≡ b.arrives = omega (arith, ints) in ap (λ (arrival : ℤ). let t : Triple = record { deadline = Never; arrival = arrival; transfers = 0; walk = 0 } in t) e
 
 module _ (feed : Feed) (times : Times) (days : DayTable) (query : Query) (plain : IsPlainFeed feed) (no_walks : times.walks ≡ []) (no_transfers : query.transfers ≡ 0) where
   pub exact_with : (best : Option Ride) → IsEarliest (IsCandidate feed times days query) best → IsExactAnswer feed times days query (answers_of best)

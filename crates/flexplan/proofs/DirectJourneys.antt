@@ -1,5 +1,5 @@
 -- Without walks and transfers, the journeys of a plain feed are its candidates.
-use Rattle.std.proofs.Common.{◌≡◌, inl, inr, ℕ, ◌+◌, ◌≤◌, ℤ, ◌≤ℤ◌, List, [], ◌∷◌, Option, Some, length, slice_get, refl, sym, ◌∙◌, ap, subst, arith}
+use Rattle.std.proofs.Common.{◌≡◌, inl, inr, Bool, true, false, if◌then◌else◌, ℕ, ◌+◌, ◌-◌, ◌≤◌, ℤ, ◌≤ℤ◌, List, [], ◌∷◌, Option, Some, length, slice_get, refl, sym, ◌∙◌, ap, subst, arith}
 use Rattle.std.proofs.lemmas.Int.{ints}
 use Rattle.std.proofs.lemmas.Option.{none-some, same_Some}
 use Rattle.flex_model.specs.declared.answer.Triple.{Triple}
@@ -14,7 +14,7 @@ use Rattle.flex_model.specs.declared.times.Times.{Times}
 use Rattle.flex_model.specs.Booking.{HasBooking, IsBookable, IsDeadline}
 use Rattle.flex_model.specs.Change.{HasAccess, HasEgress}
 use Rattle.flex_model.specs.Deadline.{IsNoLater}
-use Rattle.flex_model.specs.Journey.{Attains, IsLast, IsUsable, limit}
+use Rattle.flex_model.specs.Journey.{Attains, IsLast, IsUsable, WalksTo, counted, limit}
 use Rattle.flex_model.specs.Times.{HasSeconds}
 use Rattle.flex_model.proofs.Found.{All-at, All-one, Contains-first, none_contained, only_item}
 use Rattle.flexplan.specs.Candidate.{IsCandidate, direct_triple}
@@ -40,12 +40,16 @@ one_ride [] first few is = absurd (none-some first is)
 one_ride (ride ∷ []) first few is = ap (λ x. x ∷ []) (same_Some ride first is)
 one_ride (ride ∷ other ∷ rest) first few is = absurd (omega arith)
 
-abbrev triple_of : Deadline → ℤ → ℕ → Triple
-triple_of deadline arrival transfers = record { deadline = deadline; arrival = arrival; transfers = transfers }
+same_triple : (triple : Triple) (ride : Ride) → triple.deadline ≡ Never → triple.arrival ≡ ride.arrives → triple.transfers ≡ 0 → triple.walk ≡ 0 → triple ≡ direct_triple ride
+same_triple triple ride deadline arrival transfers walk = λ i. record { deadline = deadline i; arrival = arrival i; transfers = transfers i; walk = walk i }
 
-same_triple : (triple : Triple) (ride : Ride) → triple.deadline ≡ Never → triple.arrival ≡ ride.arrives → triple.transfers ≡ 0 → triple ≡ direct_triple ride
-same_triple triple ride deadline arrival transfers =
-    ap (λ d. triple_of d triple.arrival triple.transfers) deadline ∙ ap (λ a. triple_of Never a triple.transfers) arrival ∙ ap (λ n. triple_of Never ride.arrives n) transfers
+all_or_nothing : (asks : Bool) → (if asks then 0 else 0) ≡ 0
+all_or_nothing true = refl
+all_or_nothing false = refl
+
+-- no seconds count as no walk
+counted_nothing : (query : Query) (seconds : ℕ) → seconds ≡ 0 → counted query seconds ≡ 0
+counted_nothing query seconds e = ap (counted query) e ∙ all_or_nothing query.walking
 
 module _ (feed : Feed) (times : Times) (days : DayTable) (query : Query) (plain : IsPlainFeed feed) (no_walks : times.walks ≡ []) (no_transfers : query.transfers ≡ 0) where
   no_walk : (a b : Place) (seconds : ℕ) → HasSeconds times.walks a b seconds → ⊥
@@ -78,7 +82,11 @@ module _ (feed : Feed) (times : Times) (days : DayTable) (query : Query) (plain 
       let leaves : query.depart ≤ℤ ride.departs = let le = starts.2 in let e = from.1 in omega (arith, ints) in
       let arrives : journey.last.arrives ≤ℤ limit query = let le = journey.ends in let e = to.1 in omega (arith, ints) in
       let arrival : triple.arrival ≡ journey.last.arrives = let e = attains.arrival in let f = to.1 in omega (arith, ints) in
-      let transfers : triple.transfers ≡ 0 = let e : triple.transfers + 1 ≡ length rides = attains.transfers in omega arith in (
+      let transfers : triple.transfers ≡ 0 = let e : triple.transfers + 1 ≡ length rides = attains.transfers in omega arith in
+      let walks : WalksTo feed times query (ride ∷ []) 0 attains.walked = subst (λ rs. WalksTo feed times query rs (length rs - 1) attains.walked) one attains.walks in
+      let on_foot = walks.2 in
+      let walked : attains.walked ≡ 0 = on_foot.3 ∙ counted_nothing query on_foot.0 (at_origin walks.0.board on_foot.0 on_foot.1).1 in
+      let walk : triple.walk ≡ 0 = let e = attains.walk in let f = counted_nothing query journey.seconds to.1 in omega arith in (
         ride,
         record {
           permitted = usable.permitted;
@@ -88,7 +96,7 @@ module _ (feed : Feed) (times : Times) (days : DayTable) (query : Query) (plain 
           arrives = subst (λ r. r.arrives ≤ℤ limit query) last arrives;
         },
         one,
-        same_triple triple ride (is_never feed days attains.deadline.ride triple.deadline plain attains.deadline.reached) (arrival ∙ ap (λ r. r.arrives) last) transfers,
+        same_triple triple ride (is_never feed days attains.deadline.ride triple.deadline plain attains.deadline.reached) (arrival ∙ ap (λ r. r.arrives) last) transfers walk,
       )
 
   pub attains_alone : (ride : Ride) → IsCandidate feed times days query ride → Attains feed times days query (ride ∷ []) (direct_triple ride)
@@ -120,4 +128,7 @@ module _ (feed : Feed) (times : Times) (days : DayTable) (query : Query) (plain 
         };
         arrival = omega (arith, ints);
         transfers = refl;
+        walked = counted query 0;
+        walks = (ride, refl, (0, inl (candidate.origin, refl), omega (arith, ints), refl));
+        walk = let none = counted_nothing query 0 refl in omega arith;
       }

@@ -42,7 +42,7 @@ module _ (days : DayTable) (query : Query) (on : TripDay) (rows : List Row) (k :
     -- the ride that is boarded where the trip can be
     pub ride_here : (boarding : Option Boarding) (b : Boarding) (day departs a arrives : ℤ) → IsBoarding days query on.day rows k boarding → boarding ≡ Some b → day ≡ on.day → departs ≡ b.departs
         → arrival ≡ Some a → arrives ≡ a
-        → IsEarliest IsRideTo (Some (record { trip = on.trip; day = day; from_row = b.row; to_row = k; board = query.origin; alight = query.destination; departs = departs; arrives = arrives }))
+        → IsEarliest IsRideTo (Some (record { trip = on.trip; day = day; start = None; from_row = b.row; to_row = k; board = query.origin; alight = query.destination; departs = departs; arrives = arrives }))
     ride_here boarding b day departs a arrives before some on_day leaves left comes =
         let from : IsBoarding days query on.day rows k (Some b) = subst (IsBoarding days query on.day rows k) some before in
         let alights : CanAlightAt days query on.day rows k arrives = (get_or rows k d, slice_get-get_or rows k d within, subst (CanAlight days query on.day (get_or rows k d)) (sym comes) ((here a).1 left)) in (
@@ -50,6 +50,7 @@ module _ (days : DayTable) (query : Query) (on : TripDay) (rows : List Row) (k :
             record {
               trip = refl;
               day = on_day;
+              no_start = refl;
               board = refl;
               alight = refl;
               in_order = from.0;

@@ -1,11 +1,23 @@
 -- The moments of a record's times.
-use Rattle.std.proofs.Common.{◌≡◌, ◌↔◌, ℕ, ℤ, Option, Some, None, sym, ◌∙◌, ap, subst}
+use Rattle.std.proofs.Common.{◌≡◌, ◌↔◌, ℕ, ℤ, pos, ◌+ℤ◌, Option, Some, None, sym, ◌∙◌, ap, subst, arith}
+use Rattle.std.proofs.lemmas.Int.{ints}
 use Rattle.std.proofs.lemmas.Option.{same_Some}
 use Rattle.flex_model.specs.declared.moment.DayTable.{DayTable}
 use Rattle.flex_model.specs.declared.trip.Row.{Row}
 use Rattle.flex_model.specs.declared.trip.Timing.TheVariants.{Times}
+use Rattle.flex_model.specs.Ride.{IsShiftedMoment}
 use Rattle.flex_model.specs.ServiceDay.{IsMoment}
 use Rattle.flexplan.specs.Boarding.{LeavesAt, ArrivesAt}
+
+-- a moment that is shifted by nothing
+pub not_shifted : (days : DayTable) (day : ℤ) (time : ℕ) (moment : ℤ) → IsShiftedMoment days day (pos 0) time moment → IsMoment days day time moment
+not_shifted days day time moment s =
+    let record { 0 = scheduled; 1 = at; 2 = is } = s in
+    let e : scheduled ≡ at.0 +ℤ pos time = at.2 in
+    (at.0, at.1, omega (arith, ints))
+
+pub shifted_by_nothing : (days : DayTable) (day : ℤ) (time : ℕ) (moment : ℤ) → IsMoment days day time moment → IsShiftedMoment days day (pos 0) time moment
+shifted_by_nothing days day time moment at = (moment, at, omega (arith, ints))
 
 module _ (days : DayTable) (day : ℤ) (row : Row) (arrives departs : ℕ) (timed : row.timing ≡ Times arrives departs) (r : Option ℤ) where
   pub left_then : ((moment : ℤ) → IsMoment days day departs moment ↔ (r ≡ Some moment)) → (moment : ℤ) → LeavesAt days day row moment ↔ (r ≡ Some moment)

@@ -22,12 +22,14 @@ Names row place = (s : ℕ) × (row.spot ≡ spot.Stop s) × (place ≡ Stop s)
 -- the record has times, and is left at this moment of the day
 abbrev pub LeavesAt : DayTable → ℤ → Row → ℤ → Type 0
 LeavesAt days day row moment =
-    (arrives departs : ℕ) × (row.timing ≡ timing.Times arrives departs) × IsMoment days day departs moment
+    (arrives departs : ℕ) × (row.timing ≡ timing.Times arrives departs)
+    × IsMoment days day departs moment
 
 -- the record has times, and is reached at this moment of the day
 abbrev pub ArrivesAt : DayTable → ℤ → Row → ℤ → Type 0
 ArrivesAt days day row moment =
-    (arrives departs : ℕ) × (row.timing ≡ timing.Times arrives departs) × IsMoment days day arrives moment
+    (arrives departs : ℕ) × (row.timing ≡ timing.Times arrives departs)
+    × IsMoment days day arrives moment
 
 module _ (days : DayTable) (query : Query) (day : ℤ) where
   -- at the record the trip can be boarded at the origin, and leaves then, which is in time
@@ -55,13 +57,15 @@ module _ (days : DayTable) (query : Query) (day : ℤ) where
   -- One of the first k records at which the trip can be boarded. None where there is none.
   abbrev pub IsBoarding : List Row → ℕ → Option Boarding → Type 0
   IsBoarding rows k None = (i : ℕ) (departs : ℤ) → i < k → CanBoardAt rows i departs → ⊥
-  IsBoarding rows k (Some boarding) = (boarding.row < k) × CanBoardAt rows boarding.row boarding.departs
+  IsBoarding rows k (Some boarding) =
+      (boarding.row < k) × CanBoardAt rows boarding.row boarding.departs
 
 module _ (days : DayTable) (query : Query) (on : TripDay) (rows : List Row) where
   -- a ride of the trip on the day between two of these records, of which the one can be boarded and the other left
   pub record IsBetween (ride : Ride) : Type 0 where
     pub trip : ride.trip ≡ on.trip
     pub day : ride.day ≡ on.day
+    pub no_start : ride.start ≡ None
     pub board : ride.board ≡ query.origin
     pub alight : ride.alight ≡ query.destination
     pub in_order : ride.from_row < ride.to_row

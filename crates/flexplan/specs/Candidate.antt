@@ -31,7 +31,7 @@ module _ (feed : Feed) (times : Times) (days : DayTable) (query : Query) where
 
 -- the triple of a ride by itself that needs no booking
 abbrev pub direct_triple : Ride → Triple
-direct_triple ride = record { deadline = Never; arrival = ride.arrives; transfers = 0 }
+direct_triple ride = record { deadline = Never; arrival = ride.arrives; transfers = 0; walk = 0 }
 
 -- the answers with the ride by itself, or none where there is no ride
 abbrev pub answers_of : Option Ride → List Answer
@@ -41,7 +41,9 @@ answers_of (Some ride) = record { triple = direct_triple ride; rides = ride ∷ 
 -- Without walks and transfers, the journeys of a plain feed are the candidates, each by itself.
 abbrev pub DirectJourneysAreCandidates : Type 0
 DirectJourneysAreCandidates =
-    (feed : Feed) (times : Times) (days : DayTable) (query : Query) (rides : List Ride) (triple : Triple)
+    (feed : Feed) (times : Times) (days : DayTable) (query : Query) (rides : List Ride)
+    (triple : Triple)
     → IsPlainFeed feed → times.walks ≡ [] → query.transfers ≡ 0
     → Attains feed times days query rides triple
-    ↔ ((ride : Ride) × IsCandidate feed times days query ride × (rides ≡ ride ∷ []) × (triple ≡ direct_triple ride))
+    ↔ ((ride : Ride) × IsCandidate feed times days query ride × (rides ≡ ride ∷ [])
+    × (triple ≡ direct_triple ride))

@@ -89,4 +89,5 @@ module _ (files : FileMap) (paths : InputPaths) where
 
   -- a feed with zones of places, or accepted input of another form
   abbrev pub IsNotBuilt : Type 0
-  IsNotBuilt = (LacksZones feed_folder → ⊥) ⊎ ((bases : List ℤ) × IsAccepted bases × (IsPlannedFor feed times queries → ⊥))
+  IsNotBuilt = (LacksZones feed_folder → ⊥)
+      ⊎ ((bases : List ℤ) × IsAccepted bases × (IsPlannedFor feed times queries → ⊥))

@@ -19,12 +19,15 @@ use Rattle.flexplan.specs.declared.status.Status.TheVariants.{FeedFaulty, TimesF
 -- the feed, or else the times folder, or else the query file has these faults, and what is fetched before it has none
 abbrev pub IsRefused : FileMap → InputPaths → Status → List Fault → Type 0
 IsRefused files paths FeedFaulty faults =
-    LacksZones (feed_folder files paths) × (faults ≢ []) × (faults ≡ faults_of_feed (feed_folder files paths))
+    LacksZones (feed_folder files paths) × (faults ≢ [])
+    × (faults ≡ faults_of_feed (feed_folder files paths))
 IsRefused files paths TimesFaulty faults =
     IsFeedAccepted files paths × (faults ≢ [])
-    × ((zone : Option (List ℤ)) × FindsZone files paths zone × (faults ≡ faults_of_times files paths zone))
+    × ((zone : Option (List ℤ)) × FindsZone files paths zone
+    × (faults ≡ faults_of_times files paths zone))
 IsRefused files paths QueriesFaulty faults =
-    ((bases : List ℤ) × AreTimesAccepted files paths bases) × (faults ≢ []) × (faults ≡ faults_of_queries files paths)
+    ((bases : List ℤ) × AreTimesAccepted files paths bases) × (faults ≢ [])
+    × (faults ≡ faults_of_queries files paths)
 IsRefused files paths _ faults = ⊥
 
 -- the feed is that of the bytes

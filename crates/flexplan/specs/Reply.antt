@@ -17,7 +17,8 @@ use Rattle.flexplan.specs.declared.status.Stop.TheVariants as stop
 
 -- an exact answer to each query of the input, in the zone with these bases
 abbrev pub answers_of : FileMap → InputPaths → List ℤ → List Piece
-answers_of files paths bases = map (answer (feed files paths) (times files paths) bases) (queries files paths)
+answers_of files paths bases = map (answer (feed files paths) (times files paths) bases)
+    (queries files paths)
 
 -- a faulty input's one piece
 abbrev pub AreFaultLines : List Fault → List Piece → Type 0
@@ -25,19 +26,24 @@ AreFaultLines faults pieces = (faults ≢ []) × (pieces ≡ fault_lines faults 
 
 -- the status and the pieces that are right for `plan`
 abbrev pub IsPlanReply : FileMap → InputPaths → Status → List Piece → Type 0
-IsPlanReply files paths Done pieces = (bases : List ℤ) × IsBuilt files paths bases × (pieces ≡ answers_of files paths bases)
-IsPlanReply files paths FeedFaulty pieces = LacksZones (feed_folder files paths) × AreFaultLines (faults_of_feed (feed_folder files paths)) pieces
+IsPlanReply files paths Done pieces =
+    (bases : List ℤ) × IsBuilt files paths bases × (pieces ≡ answers_of files paths bases)
+IsPlanReply files paths FeedFaulty pieces = LacksZones (feed_folder files paths)
+    × AreFaultLines (faults_of_feed (feed_folder files paths)) pieces
 IsPlanReply files paths TimesFaulty pieces =
-    IsFeedAccepted files paths × ((zone : Option (List ℤ)) × FindsZone files paths zone × AreFaultLines (faults_of_times files paths zone) pieces)
+    IsFeedAccepted files paths × ((zone : Option (List ℤ)) × FindsZone files paths zone
+        × AreFaultLines (faults_of_times files paths zone) pieces)
 IsPlanReply files paths QueriesFaulty pieces =
-    ((bases : List ℤ) × AreTimesAccepted files paths bases) × AreFaultLines (faults_of_queries files paths) pieces
+    ((bases : List ℤ) × AreTimesAccepted files paths bases)
+    × AreFaultLines (faults_of_queries files paths) pieces
 IsPlanReply files paths NotBuilt pieces = IsNotBuilt files paths × (pieces ≡ [])
 IsPlanReply files paths _ pieces = ⊥
 
 -- the status and the pieces that are right for `lint`
 abbrev pub IsLintReply : Folder → Status → List Piece → Type 0
 IsLintReply folder Done pieces = LacksZones folder × (faults_of_feed folder ≡ []) × (pieces ≡ [])
-IsLintReply folder FeedFaulty pieces = LacksZones folder × AreFaultLines (faults_of_feed folder) pieces
+IsLintReply folder FeedFaulty pieces =
+    LacksZones folder × AreFaultLines (faults_of_feed folder) pieces
 IsLintReply folder NotBuilt pieces = (LacksZones folder → ⊥) × (pieces ≡ [])
 IsLintReply folder _ pieces = ⊥
 
@@ -48,15 +54,18 @@ IsReply (lint folder) files status pieces = IsLintReply (told_folder files folde
 
 -- a right text for each of the right pieces
 abbrev pub IsRight : Request → FileMap → Status → List ℕ → Type 0
-IsRight request files status text = (pieces : List Piece) × IsReply request files status pieces × Texts RightText pieces text
+IsRight request files status text =
+    (pieces : List Piece) × IsReply request files status pieces × Texts RightText pieces text
 
 -- the beginning of a text that is right with some status
 abbrev pub BeginsRight : Request → FileMap → List ℕ → Type 0
-BeginsRight request files bytes = (status : Status) × (text : List ℕ) × IsRight request files status text × IsBeginning text bytes
+BeginsRight request files bytes = (status : Status) × (text : List ℕ)
+    × IsRight request files status text × IsBeginning text bytes
 
 -- right texts for some of the first pieces of an accepted input
 abbrev pub IsRightSoFar : Request → FileMap → List ℕ → Type 0
-IsRightSoFar request files bytes = (pieces : List Piece) × (count : ℕ) × IsReply request files Done pieces × Texts RightText (take count pieces) bytes
+IsRightSoFar request files bytes = (pieces : List Piece) × (count : ℕ)
+    × IsReply request files Done pieces × Texts RightText (take count pieces) bytes
 
 -- what may have been printed when a run ends with this status
 abbrev pub MayHavePrinted : Request → FileMap → Status → List ℕ → Type 0
@@ -72,8 +81,10 @@ MayHavePrinted request files CertRefused bytes = IsRight request files CertRefus
 MayHavePrinted request files NotBuilt bytes = IsRight request files NotBuilt bytes
 
 -- where files are told, what a sink gained is what may have been printed for them
-abbrev pub PrintsRight : Request → Option FileMap → Status → Option (List ℕ) → Option (List ℕ) → Type 0
-PrintsRight request told status before after = IfSome told (λ files. Gains before after (MayHavePrinted request files status))
+abbrev pub PrintsRight : Request → Option FileMap → Status → Option (List ℕ) → Option (List ℕ)
+    → Type 0
+PrintsRight request told status before after =
+    IfSome told (λ files. Gains before after (MayHavePrinted request files status))
 
 -- an answer that nothing hindered
 abbrev pub IsFinished : Status → Type 0

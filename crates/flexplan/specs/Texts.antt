@@ -8,7 +8,8 @@ module _ {Q : Type 0} (IsTextOf : Q → List ℕ → Type 0) where
   -- a text of each item, in order
   abbrev pub Texts : List Q → List ℕ → Type 0
   Texts [] text = text ≡ []
-  Texts (item ∷ items) text = (first rest : List ℕ) × IsTextOf item first × Texts items rest × (text ≡ first ++ rest)
+  Texts (item ∷ items) text = (first rest : List ℕ) × IsTextOf item first × Texts items rest
+      × (text ≡ first ++ rest)
 
   -- texts of some of the first items, none cut short
   abbrev pub FirstTexts : List Q → List ℕ → Type 0
@@ -21,7 +22,9 @@ module _ {Q : Type 0} (IsTextOf : Q → List ℕ → Type 0) where
   -- texts of some of the first items, and then the beginning of one of the next
   abbrev pub PartTexts : List Q → List ℕ → Type 0
   PartTexts [] bytes = ⊥
-  PartTexts (item ∷ items) bytes = PartText item bytes ⊎ ((first rest : List ℕ) × IsTextOf item first × PartTexts items rest × (bytes ≡ first ++ rest))
+  PartTexts (item ∷ items) bytes = PartText item bytes
+      ⊎ ((first rest : List ℕ) × IsTextOf item first × PartTexts items rest
+      × (bytes ≡ first ++ rest))
 
   -- what is printed of one item
   abbrev pub Prints : Q → Result (Unit {0}) PutError → List ℕ → Type 0

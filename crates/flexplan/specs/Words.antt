@@ -37,12 +37,14 @@ three_paths name _ = None
 
 -- the words are this command and one plain path
 abbrev pub one_path : List ℕ → List (List ℕ) → Option (List ℕ)
-one_path name (command ∷ path ∷ []) = if bytes_eq command name && is_plain path then Some path else None
+one_path name (command ∷ path ∷ []) =
+    if bytes_eq command name && is_plain path then Some path else None
 one_path name _ = None
 
 -- what the words ask for, or none where they are of no accepted form
 abbrev pub request_of : List (List ℕ) → Option Request
-request_of words = option_or (option_map plan (three_paths (codes "plan") words)) (option_map lint (one_path (codes "lint") words))
+request_of words = option_or (option_map plan (three_paths (codes "plan") words))
+    (option_map lint (one_path (codes "lint") words))
 
 abbrev pub paths : declared.Paths → InputPaths
 paths p = record { feed = p.feed.now; times = p.times.now; queries = p.queries.now }

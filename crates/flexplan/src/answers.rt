@@ -17,9 +17,11 @@ use std::alloc::Global;
 
 /// Prints the lines of faults.
 pub fn print_faults<O: Sink>(alloc: Global, faults: &[Fault], out: &mut O) -> Result<(), PutError>
-    ensures printed { Gains (O.contents out.old) (O.contents out.new) (Prints RightText (fault_lines faults.now) result) }
+    ensures printed { Gains (O.contents out.old) (O.contents out.new)
+        (Prints RightText (fault_lines faults.now) result) }
     ensures counted { O.faults out.old ≤ O.faults out.new }
-    ensures write_fault { IsErrOf result PutError.Failed → HasFailed (O.faults out.old) (O.faults out.new) }
+    ensures write_fault { IsErrOf result PutError.Failed
+        → HasFailed (O.faults out.old) (O.faults out.new) }
 {
     let text = write_faults(alloc, faults)?;
     out.put(text.as_str().as_bytes())
@@ -30,7 +32,8 @@ fn answer(alloc: Global, input: &Input, query: &Query) -> Result<Text, NoMemory>
     requires input { IsSoundInput input.now }
     requires query { IsSoundQuery input.now.feed input.now.times query.now }
     requires transfers { query.now.transfers ≡ 0 }
-    ensures { IfOk result (IsAnswerText input.now.feed input.now.times input.now.zone query.entry.now) }
+    ensures { IfOk result
+        (IsAnswerText input.now.feed input.now.times input.now.zone query.entry.now) }
 {
     let days = day_table(alloc, &input.zone, query.depart)?;
     let answers = direct_answers(alloc, &input.feed, &input.times, &days, query)?;
@@ -48,9 +51,12 @@ fn print_answer<O: Sink>(
     requires input { IsSoundInput input.now }
     requires query { IsSoundQuery input.now.feed input.now.times query.now }
     requires transfers { query.now.transfers ≡ 0 }
-    ensures printed { Gains (O.contents out.old) (O.contents out.new) (Prints (IsAnswerText input.now.feed input.now.times input.now.zone) query.entry.now result) }
+    ensures printed { Gains (O.contents out.old) (O.contents out.new)
+        (Prints (IsAnswerText input.now.feed input.now.times input.now.zone) query.entry.now result)
+        }
     ensures counted { O.faults out.old ≤ O.faults out.new }
-    ensures write_fault { IsErrOf result PutError.Failed → HasFailed (O.faults out.old) (O.faults out.new) }
+    ensures write_fault { IsErrOf result PutError.Failed
+        → HasFailed (O.faults out.old) (O.faults out.new) }
 {
     let text = answer(alloc, input, query)?;
     out.put(text.as_str().as_bytes())
@@ -59,9 +65,12 @@ fn print_answer<O: Sink>(
 /// Prints an exact answer to each query of the input, in order.
 pub fn print_answers<O: Sink>(alloc: Global, input: &Input, out: &mut O) -> Result<(), PutError>
     requires { IsSoundInput input.now }
-    ensures printed { Gains (O.contents out.old) (O.contents out.new) (PrintsAll (IsAnswerText input.now.feed input.now.times input.now.zone) input.now.queries result) }
+    ensures printed { Gains (O.contents out.old) (O.contents out.new)
+        (PrintsAll (IsAnswerText input.now.feed input.now.times input.now.zone) input.now.queries
+        result) }
     ensures counted { O.faults out.old ≤ O.faults out.new }
-    ensures write_fault { IsErrOf result PutError.Failed → HasFailed (O.faults out.old) (O.faults out.new) }
+    ensures write_fault { IsErrOf result PutError.Failed
+        → HasFailed (O.faults out.old) (O.faults out.new) }
 {
     for query in input.queries.as_slice() {
         print_answer(alloc, input, query, out)?;

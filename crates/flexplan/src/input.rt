@@ -63,12 +63,16 @@ fn open_queries<F: Files>(
 ) -> Result<Opened, LoadError>
     requires feed { IsSoundFeed feed }
     requires times { AreSoundTimes feed times }
-    ensures opened { IfSome (F.told files.old) (λ told. (paths : InputPaths) → paths.queries ≡ path.now → HoldsTimes told paths feed times zone → IfOk result (IsOpened told paths)) }
+    ensures opened { IfSome (F.told files.old)
+        (λ told. (paths : InputPaths) → paths.queries ≡ path.now
+        → HoldsTimes told paths feed times zone → IfOk result (IsOpened told paths)) }
     ensures sound { IfOk result IsSoundOpening }
     ensures told { F.told files.new ≡ F.told files.old }
     ensures counted { F.faults files.old ≤ F.faults files.new }
-    ensures steady { F.is_steady files.old → F.is_steady files.new × (F.faults files.new ≡ F.faults files.old) }
-    ensures read_fault { IsErrOf result LoadError.ReadFault → HasFailed (F.faults files.old) (F.faults files.new) }
+    ensures steady { F.is_steady files.old → F.is_steady files.new
+        × (F.faults files.new ≡ F.faults files.old) }
+    ensures read_fault { IsErrOf result LoadError.ReadFault
+        → HasFailed (F.faults files.old) (F.faults files.new) }
 {
     let raw = fetch_file(alloc, files, path, byte_limit(InputFile::Queries))?;
     match read_queries(alloc, &raw, &feed, &times)? {
@@ -95,12 +99,16 @@ fn open_times<F: Files>(
     feed: Feed,
 ) -> Result<Opened, LoadError>
     requires { IsSoundFeed feed }
-    ensures opened { IfSome (F.told files.old) (λ told. HoldsFeed told (paths input.now) feed → IfOk result (IsOpened told (paths input.now))) }
+    ensures opened { IfSome (F.told files.old)
+        (λ told. HoldsFeed told (paths input.now) feed
+        → IfOk result (IsOpened told (paths input.now))) }
     ensures sound { IfOk result IsSoundOpening }
     ensures told { F.told files.new ≡ F.told files.old }
     ensures counted { F.faults files.old ≤ F.faults files.new }
-    ensures steady { F.is_steady files.old → F.is_steady files.new × (F.faults files.new ≡ F.faults files.old) }
-    ensures read_fault { IsErrOf result LoadError.ReadFault → HasFailed (F.faults files.old) (F.faults files.new) }
+    ensures steady { F.is_steady files.old → F.is_steady files.new
+        × (F.faults files.new ≡ F.faults files.old) }
+    ensures read_fault { IsErrOf result LoadError.ReadFault
+        → HasFailed (F.faults files.old) (F.faults files.new) }
 {
     match load_times(alloc, files, input.times, &feed)? {
         LoadedTimes::Clean(times, zone) => {
@@ -116,12 +124,15 @@ pub fn open_input<F: Files>(
     files: &mut F,
     input: &Paths<'_>,
 ) -> Result<Opened, LoadError>
-    ensures opened { IfSome (F.told files.old) (λ told. IfOk result (IsOpened told (paths input.now))) }
+    ensures opened { IfSome (F.told files.old)
+        (λ told. IfOk result (IsOpened told (paths input.now))) }
     ensures sound { IfOk result IsSoundOpening }
     ensures told { F.told files.new ≡ F.told files.old }
     ensures counted { F.faults files.old ≤ F.faults files.new }
-    ensures steady { F.is_steady files.old → F.is_steady files.new × (F.faults files.new ≡ F.faults files.old) }
-    ensures read_fault { IsErrOf result LoadError.ReadFault → HasFailed (F.faults files.old) (F.faults files.new) }
+    ensures steady { F.is_steady files.old → F.is_steady files.new
+        × (F.faults files.new ≡ F.faults files.old) }
+    ensures read_fault { IsErrOf result LoadError.ReadFault
+        → HasFailed (F.faults files.old) (F.faults files.new) }
 {
     match load(alloc, files, input.feed)? {
         Loaded::Clean(feed) => open_times(alloc, files, input, feed),

@@ -32,11 +32,14 @@ fn perform_plan<F: Files, O: Sink>(
     files: &mut F,
     out: &mut O,
 ) -> Result<Status, Stop>
-    ensures printed { PrintsRight (plan (paths input.now)) (F.told files.old) (status_of result) (O.contents out.old) (O.contents out.new) }
+    ensures printed { PrintsRight (plan (paths input.now)) (F.told files.old) (status_of result)
+        (O.contents out.old) (O.contents out.new) }
     ensures silent { status_of result ≡ Status.ReadFault → O.contents out.new ≡ O.contents out.old }
     ensures told { F.told files.new ≡ F.told files.old }
-    ensures read_fault { status_of result ≡ Status.ReadFault → HasFailed (F.faults files.old) (F.faults files.new) }
-    ensures write_fault { status_of result ≡ Status.WriteFault → HasFailed (O.faults out.old) (O.faults out.new) }
+    ensures read_fault { status_of result ≡ Status.ReadFault
+        → HasFailed (F.faults files.old) (F.faults files.new) }
+    ensures write_fault { status_of result ≡ Status.WriteFault
+        → HasFailed (O.faults out.old) (O.faults out.new) }
     ensures used { status_of result ≢ Status.Usage }
 {
     match open_input(alloc, files, input)? {
@@ -55,11 +58,14 @@ fn perform_lint<F: Files, O: Sink>(
     files: &mut F,
     out: &mut O,
 ) -> Result<Status, Stop>
-    ensures printed { PrintsRight (lint folder.now) (F.told files.old) (status_of result) (O.contents out.old) (O.contents out.new) }
+    ensures printed { PrintsRight (lint folder.now) (F.told files.old) (status_of result)
+        (O.contents out.old) (O.contents out.new) }
     ensures silent { status_of result ≡ Status.ReadFault → O.contents out.new ≡ O.contents out.old }
     ensures told { F.told files.new ≡ F.told files.old }
-    ensures read_fault { status_of result ≡ Status.ReadFault → HasFailed (F.faults files.old) (F.faults files.new) }
-    ensures write_fault { status_of result ≡ Status.WriteFault → HasFailed (O.faults out.old) (O.faults out.new) }
+    ensures read_fault { status_of result ≡ Status.ReadFault
+        → HasFailed (F.faults files.old) (F.faults files.new) }
+    ensures write_fault { status_of result ≡ Status.WriteFault
+        → HasFailed (O.faults out.old) (O.faults out.new) }
     ensures used { status_of result ≢ Status.Usage }
 {
     match load(alloc, files, folder)? {
@@ -79,11 +85,14 @@ fn perform<F: Files, O: Sink>(
     files: &mut F,
     out: &mut O,
 ) -> Result<Status, Stop>
-    ensures printed { PrintsRight (request command.now) (F.told files.old) (status_of result) (O.contents out.old) (O.contents out.new) }
+    ensures printed { PrintsRight (request command.now) (F.told files.old) (status_of result)
+        (O.contents out.old) (O.contents out.new) }
     ensures silent { status_of result ≡ Status.ReadFault → O.contents out.new ≡ O.contents out.old }
     ensures told { F.told files.new ≡ F.told files.old }
-    ensures read_fault { status_of result ≡ Status.ReadFault → HasFailed (F.faults files.old) (F.faults files.new) }
-    ensures write_fault { status_of result ≡ Status.WriteFault → HasFailed (O.faults out.old) (O.faults out.new) }
+    ensures read_fault { status_of result ≡ Status.ReadFault
+        → HasFailed (F.faults files.old) (F.faults files.new) }
+    ensures write_fault { status_of result ≡ Status.WriteFault
+        → HasFailed (O.faults out.old) (O.faults out.new) }
     ensures used { status_of result ≢ Status.Usage }
 {
     match command {
@@ -108,12 +117,16 @@ fn status_of(end: Result<Status, Stop>) -> Status
 fn answer<F: Files, O: Sink>(alloc: Global, words: &[&str], files: &mut F, out: &mut O) -> Status
     ensures usage { result ≡ Status.Usage ↔ (request_of (texts words.now) ≡ None) }
     ensures printed { IfSome (request_of (texts words.now))
-        (λ request. PrintsRight request (F.told files.old) result (O.contents out.old) (O.contents out.new)) }
+        (λ request. PrintsRight request (F.told files.old) result (O.contents out.old)
+        (O.contents out.new)) }
     ensures silent_usage { result ≡ Status.Usage → O.contents out.new ≡ O.contents out.old }
-    ensures silent_read_fault { result ≡ Status.ReadFault → O.contents out.new ≡ O.contents out.old }
+    ensures silent_read_fault { result ≡ Status.ReadFault
+        → O.contents out.new ≡ O.contents out.old }
     ensures told { F.told files.new ≡ F.told files.old }
-    ensures read_fault { result ≡ Status.ReadFault → HasFailed (F.faults files.old) (F.faults files.new) }
-    ensures write_fault { result ≡ Status.WriteFault → HasFailed (O.faults out.old) (O.faults out.new) }
+    ensures read_fault { result ≡ Status.ReadFault
+        → HasFailed (F.faults files.old) (F.faults files.new) }
+    ensures write_fault { result ≡ Status.WriteFault
+        → HasFailed (O.faults out.old) (O.faults out.new) }
 {
     let Some(command) = command_of(words) else {
         return Status::Usage;
@@ -135,7 +148,8 @@ fn error_line(status: Status) -> &'static str
 
 // Puts the line of a status. What becomes of that put changes nothing.
 fn report<E: Sink>(status: Status, err: &mut E)
-    ensures { Gains (E.contents err.old) (E.contents err.new) (IsLineOrNothing (E.faults err.old) (E.faults err.new) (error_line status)) }
+    ensures { Gains (E.contents err.old) (E.contents err.new)
+        (IsLineOrNothing (E.faults err.old) (E.faults err.new) (error_line status)) }
 {
     let line = error_line(status);
     if line.is_empty() {
@@ -157,19 +171,25 @@ pub fn run<F: Files, O: Sink, E: Sink>(
 
     // Where files are told, the status and what `out` gained are right for the words and the files.
     ensures printed { IfSome (request_of (texts words.now))
-        (λ request. PrintsRight request (F.told files.old) result (O.contents out.old) (O.contents out.new)) }
+        (λ request. PrintsRight request (F.told files.old) result (O.contents out.old)
+        (O.contents out.new)) }
 
     // Told or not, these two print nothing.
     ensures silent_usage { result ≡ Status.Usage → O.contents out.new ≡ O.contents out.old }
-    ensures silent_read_fault { result ≡ Status.ReadFault → O.contents out.new ≡ O.contents out.old }
+    ensures silent_read_fault { result ≡ Status.ReadFault
+        → O.contents out.new ≡ O.contents out.old }
 
     // A fault is answered only where one was counted.
-    ensures read_fault { result ≡ Status.ReadFault → HasFailed (F.faults files.old) (F.faults files.new) }
-    ensures write_fault { result ≡ Status.WriteFault → HasFailed (O.faults out.old) (O.faults out.new) }
+    ensures read_fault { result ≡ Status.ReadFault
+        → HasFailed (F.faults files.old) (F.faults files.new) }
+    ensures write_fault { result ≡ Status.WriteFault
+        → HasFailed (O.faults out.old) (O.faults out.new) }
 
     // So accepted words over an outside without faults are answered in full, unless memory runs out.
-    ensures complete { IsSome (request_of (texts words.now)) → ¬ HasFailed (F.faults files.old) (F.faults files.new)
-        → ¬ HasFailed (O.faults out.old) (O.faults out.new) → IsFinished result ⊎ (result ≡ Status.NoMemory) }
+    ensures complete { IsSome (request_of (texts words.now))
+        → ¬ HasFailed (F.faults files.old) (F.faults files.new)
+        → ¬ HasFailed (O.faults out.old) (O.faults out.new) → IsFinished result
+        ⊎ (result ≡ Status.NoMemory) }
 
     ensures told { F.told files.new ≡ F.told files.old }
 

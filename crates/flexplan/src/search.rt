@@ -27,6 +27,7 @@ fn answers_with(alloc: Global, best: Option<Ride>) -> Result<Listed<Answer>, NoM
             deadline: Deadline::Never,
             arrival: ride.arrives,
             transfers: 0,
+            walk: 0,
         };
         answers.push(Answer { triple, rides })?;
     }
@@ -48,7 +49,8 @@ pub fn direct_answers(
     requires query { IsSoundQuery feed.now times.now query.now }
     requires walks { times.now.walks ≡ [] }
     requires transfers { query.now.transfers ≡ 0 }
-    ensures { IfOk result (λ answers. IsExactAnswer feed.now times.now days.now query.entry.now answers) }
+    ensures { IfOk result
+        (λ answers. IsExactAnswer feed.now times.now days.now query.entry.now answers) }
 {
     answers_with(alloc, best_ride(feed, days, query))
 }
@@ -57,28 +59,3 @@ pub fn direct_answers(
 pub fn direct_journeys_are_candidates()
     ensures { DirectJourneysAreCandidates }
 {}
-
-#[cfg(test)]
-mod tests {
-    use super::*;
-    use flex_model::Place;
-    use std::test::Fail;
-
-    #[test]
-    fn answers_with_a_ride(rt: HostRuntime) -> Result<(), Fail> {
-        let ride = Ride {
-            trip: 0,
-            day: 20_243,
-            from_row: 0,
-            to_row: 1,
-            board: Place::Stop(0),
-            alight: Place::Stop(1),
-            departs: 1_749_024_000,
-            arrives: 1_749_025_200,
-        };
-        let answers = answers_with(rt.alloc(), Some(ride))?;
-        assert_eq!(rt; answers.as_slice().len(), 1);
-        assert!(rt; answers_with(rt.alloc(), None)?.as_slice().is_empty());
-        Ok(())
-    }
-}

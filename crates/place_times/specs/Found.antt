@@ -33,16 +33,21 @@ schema_of file = table [] (λ earlier r. [])
 abbrev pub own_faults : InputFile → Schema → RawFile → List Fault
 own_faults file schema Absent = []
 own_faults file schema TooLarge = fault file 0 code.FileTooLarge ∷ []
-own_faults file schema (Bytes bytes) = if has_no_record (table_records bytes) then [] else table_faults file schema (table_records bytes)
+own_faults file schema (Bytes bytes) =
+    if has_no_record (table_records bytes) then [] else table_faults file schema
+    (table_records bytes)
 
 abbrev pub entries_in : RawFile → List Entry
 entries_in raw = entries_of (table_records (bytes_of raw))
 
 -- A file was found to be this: without records, with one fault, or a table that isn't refused.
 abbrev pub IsFound : InputFile → RawFile → Found → Type 0
-IsFound file raw Nothing = ((schema : Schema) → own_faults file schema raw ≡ []) × (entries_in raw ≡ [])
+IsFound file raw Nothing = ((schema : Schema) → own_faults file schema raw ≡ [])
+    × (entries_in raw ≡ [])
 IsFound file raw (Faulty f) = (schema : Schema) → own_faults file schema raw ≡ f ∷ []
-IsFound file raw (Read t) = ((schema : Schema) → own_faults file schema raw ≡ schema_faults file schema (missing_columns schema (header_of t)) t) × (t ≡ table_records (bytes_of raw))
+IsFound file raw (Read t) = ((schema : Schema)
+    → own_faults file schema raw ≡ schema_faults file schema
+    (missing_columns schema (header_of t)) t) × (t ≡ table_records (bytes_of raw))
 
 -- the faults of a table before its records are judged
 abbrev pub outer_faults : InputFile → Found → List Fault
@@ -54,7 +59,8 @@ outer_faults file (Read t) = missing_faults file (missing_columns (schema_of fil
 abbrev pub found_faults : InputFile → Found → List Fault
 found_faults file Nothing = []
 found_faults file (Faulty f) = f ∷ []
-found_faults file (Read t) = schema_faults file (schema_of file) (missing_columns (schema_of file) (header_of t)) t
+found_faults file (Read t) = schema_faults file (schema_of file)
+    (missing_columns (schema_of file) (header_of t)) t
 
 -- the records of a table
 abbrev pub records_of : Found → List Entry

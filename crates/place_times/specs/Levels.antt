@@ -54,18 +54,22 @@ pub record AreAcceptedTables (tables : TimesTables) : Type 0 where
 
 -- the faults of the files by themselves, after those of the zone
 abbrev pub level_one : List Fault → TimesTables → List Fault
-level_one zone tables = ((zone ++ found_faults Points tables.points) ++ found_faults Direct tables.direct) ++ found_faults Walks tables.walks
+level_one zone tables = ((zone ++ found_faults Points tables.points)
+    ++ found_faults Direct tables.direct) ++ found_faults Walks tables.walks
 
 abbrev pub point_link_list : Feed → Found → List Fault
-point_link_list feed found = flat_map (λ e. faults_at Points e.row (point_links feed e.values)) (records_of found)
+point_link_list feed found = flat_map (λ e. faults_at Points e.row (point_links feed e.values))
+    (records_of found)
 
 abbrev pub span_link_list : Feed → List Values → InputFile → Found → List Fault
-span_link_list feed points file found = flat_map (λ e. faults_at file e.row (span_links feed points e.values)) (records_of found)
+span_link_list feed points file found =
+    flat_map (λ e. faults_at file e.row (span_links feed points e.values)) (records_of found)
 
 -- the faults of the tables beside the feed and the points
 abbrev pub link_list : Feed → List Values → TimesTables → List Fault
 link_list feed points tables =
-    (point_link_list feed tables.points ++ span_link_list feed points Direct tables.direct) ++ span_link_list feed points Walks tables.walks
+    (point_link_list feed tables.points ++ span_link_list feed points Direct tables.direct)
+    ++ span_link_list feed points Walks tables.walks
 
 -- the times of the tables
 abbrev pub times_in : Feed → TimesTables → Times
@@ -80,9 +84,11 @@ times_in feed tables =
 -- the spans of the tables where they have no faults beside the feed and the points, and else those faults
 abbrev pub AreLinked : Feed → TimesTables → LinkedSpans → Type 0
 AreLinked feed tables (linked.Clean direct walks) =
-    (link_list feed (values_of_found tables.points) tables ≡ []) × (direct ≡ (times_in feed tables).direct) × (walks ≡ (times_in feed tables).walks)
+    (link_list feed (values_of_found tables.points) tables ≡ [])
+    × (direct ≡ (times_in feed tables).direct) × (walks ≡ (times_in feed tables).walks)
 AreLinked feed tables (linked.Faulty faults) =
-    (link_list feed (values_of_found tables.points) tables ≢ []) × (faults ≡ link_list feed (values_of_found tables.points) tables)
+    (link_list feed (values_of_found tables.points) tables ≢ [])
+    × (faults ≡ link_list feed (values_of_found tables.points) tables)
 
 -- the times where there are no faults, and else the faults
 abbrev pub HoldsTimes : List Fault → Times → ReadTimes → Type 0
@@ -91,5 +97,7 @@ HoldsTimes faults times (Faulty read) = (faults ≢ []) × (read ≡ faults)
 
 -- A folder without faults gives its times, which are sound for the feed. Another gives its whole fault list.
 abbrev pub AreRead : BadZones → Feed → Folder → ReadTimes → Type 0
-AreRead is_bad_zone feed folder (Clean read) = (times_faults is_bad_zone feed folder ≡ []) × (read ≡ times_of feed folder) × AreSoundTimes feed read
-AreRead is_bad_zone feed folder (Faulty read) = (times_faults is_bad_zone feed folder ≢ []) × (read ≡ times_faults is_bad_zone feed folder)
+AreRead is_bad_zone feed folder (Clean read) = (times_faults is_bad_zone feed folder ≡ [])
+    × (read ≡ times_of feed folder) × AreSoundTimes feed read
+AreRead is_bad_zone feed folder (Faulty read) =
+    (times_faults is_bad_zone feed folder ≢ []) × (read ≡ times_faults is_bad_zone feed folder)

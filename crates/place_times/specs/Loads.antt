@@ -50,7 +50,8 @@ pub record AreReadWithZone (files : TimesFiles) (feed : Feed) (times : LoadedTim
   pub bases : Option (List ℤ)
   pub found : IsZoneFound files.zone_text files.zone_tzif bases
   pub given : HasZone times bases
-  pub whole : (folder : Folder) → AreFetched folder files → AreRead (judged_by bases) feed folder (without_zone times)
+  pub whole : (folder : Folder) → AreFetched folder files
+      → AreRead (judged_by bases) feed folder (without_zone times)
 
 -- told or not, the times are sound
 abbrev pub IsSoundLoad : Feed → LoadedTimes → Type 0

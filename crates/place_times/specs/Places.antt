@@ -23,12 +23,14 @@ pub record ArePlaceIds (feed : Feed) (points : List Point) (ids : PlaceIds) : Ty
 -- a span by the texts of its record; it takes no time where the text has no number up to the greatest one
 abbrev pub span_by : Feed → List Point → ℕ → List ℕ → List ℕ → List ℕ → Span
 span_by feed points most from to seconds =
-    record { from = place_named feed points from; to = place_named feed points to; seconds = unwrap_or (count most seconds) 0 }
+    record { from = place_named feed points from; to = place_named feed points to; seconds =
+        unwrap_or (count most seconds) 0 }
 
 abbrev pub read_span : Feed → List Point → ℕ → Values → Span
 read_span feed points most r = span_by feed points most (r "from_id") (r "to_id") (r "seconds")
 
 -- the records of a table of spans have no faults, neither by themselves nor beside the feed and the points
-pub record AreAcceptedSpans (feed : Feed) (points : List Values) (file : InputFile) (most : ℕ) (es : List Entry) : Type 0 where
+pub record AreAcceptedSpans (feed : Feed) (points : List Values) (file : InputFile) (most : ℕ)
+    (es : List Entry) : Type 0 where
   pub alone : record_faults file (span_rules most) es ≡ []
   pub linked : flat_map (λ e. faults_at file e.row (span_links feed points e.values)) es ≡ []

@@ -29,11 +29,15 @@ fn fetch_tzif<F: Files>(
     folder: &str,
     text: &RawFile,
 ) -> Result<RawFile, LoadError>
-    ensures fetched { IfSome (F.told files.old) (λ told. IfOk result (λ raw. text.now ≡ Raw.Absent → raw ≡ told_folder told folder.now InputFiles.ZoneTzif)) }
+    ensures fetched { IfSome (F.told files.old)
+        (λ told. IfOk result (λ raw. text.now ≡ Raw.Absent
+        → raw ≡ told_folder told folder.now InputFiles.ZoneTzif)) }
     ensures told { F.told files.new ≡ F.told files.old }
     ensures counted { F.faults files.old ≤ F.faults files.new }
-    ensures steady { F.is_steady files.old → F.is_steady files.new × (F.faults files.new ≡ F.faults files.old) }
-    ensures read_fault { IsErrOf result LoadError.ReadFault → HasFailed (F.faults files.old) (F.faults files.new) }
+    ensures steady { F.is_steady files.old → F.is_steady files.new
+        × (F.faults files.new ≡ F.faults files.old) }
+    ensures read_fault { IsErrOf result LoadError.ReadFault
+        → HasFailed (F.faults files.old) (F.faults files.new) }
 {
     match text {
         RawFile::Absent => fetch_input(alloc, files, folder, InputFile::ZoneTzif),
@@ -48,12 +52,15 @@ pub(crate) fn fetch_times<F: Files>(
     files: &mut F,
     folder: &str,
 ) -> Result<TimesFiles, LoadError>
-    ensures fetched { IfSome (F.told files.old) (λ told. IfOk result (AreFetched (told_folder told folder.now))) }
+    ensures fetched { IfSome (F.told files.old)
+        (λ told. IfOk result (AreFetched (told_folder told folder.now))) }
     ensures within { IfOk result AreCounted }
     ensures told { F.told files.new ≡ F.told files.old }
     ensures counted { F.faults files.old ≤ F.faults files.new }
-    ensures steady { F.is_steady files.old → F.is_steady files.new × (F.faults files.new ≡ F.faults files.old) }
-    ensures read_fault { IsErrOf result LoadError.ReadFault → HasFailed (F.faults files.old) (F.faults files.new) }
+    ensures steady { F.is_steady files.old → F.is_steady files.new
+        × (F.faults files.new ≡ F.faults files.old) }
+    ensures read_fault { IsErrOf result LoadError.ReadFault
+        → HasFailed (F.faults files.old) (F.faults files.new) }
 {
     let zone_text = fetch_input(alloc, files, folder, InputFile::ZoneText)?;
     let zone_tzif = fetch_tzif(alloc, files, folder, &zone_text)?;

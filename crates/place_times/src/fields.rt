@@ -5,13 +5,9 @@ ghost use Rattle.field_text.specs.Grammars;
 ghost use Rattle.feed_meaning.specs.FeedValue.{coordinate};
 
 use field_text::{read_count, read_degree};
+use flex_model::limits::{GREATEST_LATITUDE, GREATEST_LONGITUDE};
 use flex_model::{NoMemory, Text};
 use std::alloc::Global;
-
-// 180 and 90 degrees, in units of 10^-15 degree.
-const MOST_LONGITUDE: i64 = 180_000_000_000_000_000;
-
-const MOST_LATITUDE: i64 = 90_000_000_000_000_000;
 
 /// Whether a text has no value of its kind.
 pub(crate) fn is_no<T: Copy>(value: Option<T>) -> bool
@@ -33,21 +29,21 @@ pub(crate) fn text_of(alloc: Global, text: &str) -> Result<Text, NoMemory>
 pub(crate) fn latitude(text: &str) -> Option<i64>
     ensures { result ≡ Grammars.degree 90 text.now }
 {
-    read_degree(text, MOST_LATITUDE).ok()
+    read_degree(text, GREATEST_LATITUDE).ok()
 }
 
 /// A longitude, in units of 10^-15 degree.
 pub(crate) fn longitude(text: &str) -> Option<i64>
     ensures { result ≡ Grammars.degree 180 text.now }
 {
-    read_degree(text, MOST_LONGITUDE).ok()
+    read_degree(text, GREATEST_LONGITUDE).ok()
 }
 
 /// A longitude, and 0 where the text has none.
 pub(crate) fn longitude_or_zero(text: &str) -> i64
     ensures { result ≡ coordinate 180 text.now }
 {
-    match read_degree(text, MOST_LONGITUDE) {
+    match read_degree(text, GREATEST_LONGITUDE) {
         Ok(degree) => degree,
         Err(_) => 0,
     }
@@ -57,7 +53,7 @@ pub(crate) fn longitude_or_zero(text: &str) -> i64
 pub(crate) fn latitude_or_zero(text: &str) -> i64
     ensures { result ≡ coordinate 90 text.now }
 {
-    match read_degree(text, MOST_LATITUDE) {
+    match read_degree(text, GREATEST_LATITUDE) {
         Ok(degree) => degree,
         Err(_) => 0,
     }

@@ -12,14 +12,9 @@ use crate::point_records::point_faults;
 use crate::span_records::span_faults;
 use feed_meaning::add_missing_columns;
 use feed_tables::Table;
+use flex_model::limits::{GREATEST_DIRECT, GREATEST_WALK};
 use flex_model::{Fault, InputFile, Listed, NoMemory};
 use std::alloc::Global;
-
-/// The longest direct time in seconds, a week.
-pub(crate) const MOST_DIRECT: u64 = 604_800;
-
-/// The longest walk in seconds, a day.
-pub(crate) const MOST_WALK: u64 = 86_400;
 
 // The columns that a table needs.
 fn needed_columns(file: InputFile) -> &'static [&'static str]
@@ -36,12 +31,13 @@ fn needed_columns(file: InputFile) -> &'static [&'static str]
 
 // The faults of the records of a table.
 fn row_faults(alloc: Global, file: InputFile, table: &Table) -> Result<Listed<Fault>, NoMemory>
-    ensures { IfOk result (λ faults. is_times_table file ≡ true → faults ≡ record_faults file (schema_of file).rules (entries_of table.now)) }
+    ensures { IfOk result (λ faults. is_times_table file ≡ true
+        → faults ≡ record_faults file (schema_of file).rules (entries_of table.now)) }
 {
     match file {
         InputFile::Points => point_faults(alloc, table),
-        InputFile::Direct => span_faults(alloc, InputFile::Direct, MOST_DIRECT, table),
-        InputFile::Walks => span_faults(alloc, InputFile::Walks, MOST_WALK, table),
+        InputFile::Direct => span_faults(alloc, InputFile::Direct, GREATEST_DIRECT, table),
+        InputFile::Walks => span_faults(alloc, InputFile::Walks, GREATEST_WALK, table),
         _ => Ok(Listed::new(alloc)),
     }
 }

@@ -56,7 +56,9 @@ fn zone_of(alloc: Global, text: &RawFile, tzif: &RawFile) -> Result<Option<ZoneV
 // The faults of the files by themselves, where there is no zone.
 fn zoneless_faults(alloc: Global, files: &TimesFiles) -> Result<Listed<Fault>, NoMemory>
     requires { AreCounted files.now }
-    ensures { IfOk result (λ faults. (folder : Folder) (feed : Feeds.Feed) → AreFetched folder files.now → AreRead (judged true) feed folder (ReadTimes.Faulty faults)) }
+    ensures { IfOk result (λ faults. (folder : Folder) (feed : Feeds.Feed)
+        → AreFetched folder files.now → AreRead (judged true) feed folder
+        (ReadTimes.Faulty faults)) }
 {
     let tables = read_tables(alloc, files)?;
     let zone = zone_fault(&files.zone_text, &files.zone_tzif, true);
@@ -87,12 +89,15 @@ pub fn load_times<F: Files>(
     feed: &Feed,
 ) -> Result<LoadedTimes, LoadError>
     requires { IsSoundFeed feed.now }
-    ensures loaded { IfSome (F.told files.old) (λ told. IfOk result (AreLoaded feed.now (told_folder told folder.now))) }
+    ensures loaded { IfSome (F.told files.old)
+        (λ told. IfOk result (AreLoaded feed.now (told_folder told folder.now))) }
     ensures sound { IfOk result (IsSoundLoad feed.now) }
     ensures told { F.told files.new ≡ F.told files.old }
     ensures counted { F.faults files.old ≤ F.faults files.new }
-    ensures steady { F.is_steady files.old → F.is_steady files.new × (F.faults files.new ≡ F.faults files.old) }
-    ensures read_fault { IsErrOf result LoadError.ReadFault → HasFailed (F.faults files.old) (F.faults files.new) }
+    ensures steady { F.is_steady files.old → F.is_steady files.new
+        × (F.faults files.new ≡ F.faults files.old) }
+    ensures read_fault { IsErrOf result LoadError.ReadFault
+        → HasFailed (F.faults files.old) (F.faults files.new) }
 {
     let found = fetch_times(alloc, files, folder)?;
     let times = read_files(alloc, feed, &found)?;

@@ -19,7 +19,9 @@ use std::alloc::Global;
 
 // The rule of a point beside the feed.
 fn point_links(ids: &PlaceIds<'_>, point: &str) -> [Option<FaultCode>; 1]
-    ensures { (feed : Feeds.Feed) (points : List Places.Point) (r : Values) → ArePlaceIds feed points ids.now → point.now ≡ r "point_id" → result ≡ TimesFaults.point_links feed r }
+    ensures { (feed : Feeds.Feed) (points : List Places.Point) (r : Values)
+        → ArePlaceIds feed points ids.now → point.now ≡ r "point_id"
+        → result ≡ TimesFaults.point_links feed r }
 {
     [rule(FaultCode::SharedId, is_stop(ids, point))]
 }
@@ -30,8 +32,10 @@ pub(crate) fn point_link_faults(
     table: &Table,
     ids: &PlaceIds<'_>,
 ) -> Result<Listed<Fault>, NoMemory>
-    ensures { IfOk result (λ faults. (feed : Feeds.Feed) (points : List Places.Point) → ArePlaceIds feed points ids.now
-        → faults ≡ flat_map (λ e. faults_at Files.Points e.row (TimesFaults.point_links feed e.values)) (entries_of table.now)) }
+    ensures { IfOk result (λ faults. (feed : Feeds.Feed) (points : List Places.Point)
+        → ArePlaceIds feed points ids.now
+        → faults ≡ flat_map (λ e. faults_at Files.Points e.row
+        (TimesFaults.point_links feed e.values)) (entries_of table.now)) }
 {
     let point_id = table.column("point_id");
     let mut faults = Listed::new(alloc);
@@ -45,7 +49,9 @@ pub(crate) fn point_link_faults(
 
 // The rules of a span beside the feed and the points.
 fn span_links(ids: &PlaceIds<'_>, from: &str, to: &str) -> [Option<FaultCode>; 2]
-    ensures { (feed : Feeds.Feed) (points : List Values) (r : Values) → ArePlaceIds feed (map point_of points) ids.now → from.now ≡ r "from_id" → to.now ≡ r "to_id"
+    ensures { (feed : Feeds.Feed) (points : List Values) (r : Values)
+        → ArePlaceIds feed (map point_of points) ids.now → from.now ≡ r "from_id"
+        → to.now ≡ r "to_id"
         → result ≡ TimesFaults.span_links feed points r }
 {
     [
@@ -61,8 +67,10 @@ pub(crate) fn span_link_faults(
     table: &Table,
     ids: &PlaceIds<'_>,
 ) -> Result<Listed<Fault>, NoMemory>
-    ensures { IfOk result (λ faults. (feed : Feeds.Feed) (points : List Values) → ArePlaceIds feed (map point_of points) ids.now
-        → faults ≡ flat_map (λ e. faults_at file e.row (TimesFaults.span_links feed points e.values)) (entries_of table.now)) }
+    ensures { IfOk result (λ faults. (feed : Feeds.Feed) (points : List Values)
+        → ArePlaceIds feed (map point_of points) ids.now
+        → faults ≡ flat_map (λ e. faults_at file e.row
+        (TimesFaults.span_links feed points e.values)) (entries_of table.now)) }
 {
     let from_id = table.column("from_id");
     let to_id = table.column("to_id");

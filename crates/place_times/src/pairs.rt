@@ -14,8 +14,10 @@ pub(crate) fn note_pair<'a>(
     from: &'a str,
     to: &'a str,
 ) -> Result<bool, NoMemory>
-    ensures repeated { IfOk result (λ is_repeated. is_repeated ≡ has_some_pair (pairs_of met.old.keys) (both (id from.now) (id to.now))) }
-    ensures noted { OnOk result (pairs_of met.new.keys ≡ noted_pair (pairs_of met.old.keys) (both (id from.now) (id to.now))) }
+    ensures repeated { IfOk result (λ is_repeated. is_repeated ≡ has_some_pair
+        (pairs_of met.old.keys) (both (id from.now) (id to.now))) }
+    ensures noted { OnOk result (pairs_of met.new.keys ≡ noted_pair (pairs_of met.old.keys)
+        (both (id from.now) (id to.now))) }
 {
     if from.is_empty() {
         return Ok(false);

@@ -78,14 +78,17 @@ fn boards_at(feed: &Feed, stop: u32) -> bool
 
 /// Whether a text is the id of a stop.
 pub(crate) fn is_stop(ids: &PlaceIds<'_>, text: &str) -> bool
-    ensures { (feed : Feeds.Feed) (points : List Places.Point) → ArePlaceIds feed points ids.now → result ≡ TimesFaults.is_stop feed text.now }
+    ensures { (feed : Feeds.Feed) (points : List Places.Point) → ArePlaceIds feed points ids.now
+        → result ≡ TimesFaults.is_stop feed text.now }
 {
     ids.stops.has(text)
 }
 
 /// Whether a text is the id of a point, or of a stop where one can board.
 pub(crate) fn is_place(ids: &PlaceIds<'_>, text: &str) -> bool
-    ensures { (feed : Feeds.Feed) (points : List Values) → ArePlaceIds feed (map point_of points) ids.now → result ≡ TimesFaults.is_place feed points text.now }
+    ensures { (feed : Feeds.Feed) (points : List Values)
+        → ArePlaceIds feed (map point_of points) ids.now
+        → result ≡ TimesFaults.is_place feed points text.now }
 {
     if ids.points.has(text) {
         return true;
@@ -98,7 +101,8 @@ pub(crate) fn is_place(ids: &PlaceIds<'_>, text: &str) -> bool
 
 /// The stop or the point with this id, and the first point where there is neither.
 pub(crate) fn place_named(ids: &PlaceIds<'_>, text: &str) -> Place
-    ensures { (feed : Feeds.Feed) (points : List Places.Point) → ArePlaceIds feed points ids.now → result ≡ TimesValue.place_named feed points text.now }
+    ensures { (feed : Feeds.Feed) (points : List Places.Point) → ArePlaceIds feed points ids.now
+        → result ≡ TimesValue.place_named feed points text.now }
 {
     if let Some(stop) = ids.stops.index_of(text) {
         return Place::Stop(stop);

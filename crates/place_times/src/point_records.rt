@@ -16,8 +16,10 @@ use std::alloc::Global;
 
 // The rules of a point.
 fn point_rules(point: &str, is_repeated: bool, lat: &str, lon: &str) -> [Option<FaultCode>; 4]
-    ensures { (earlier : List Values) (r : Values) → point.now ≡ r "point_id" → is_repeated ≡ repeats_id "point_id" earlier r
-        → lat.now ≡ r "point_lat" → lon.now ≡ r "point_lon" → result ≡ TimesFaults.point_rules earlier r }
+    ensures { (earlier : List Values) (r : Values) → point.now ≡ r "point_id"
+        → is_repeated ≡ repeats_id "point_id" earlier r
+        → lat.now ≡ r "point_lat" → lon.now ≡ r "point_lon"
+        → result ≡ TimesFaults.point_rules earlier r }
 {
     [
         rule(FaultCode::EmptyField, is_empty(point)),
@@ -29,7 +31,8 @@ fn point_rules(point: &str, is_repeated: bool, lat: &str, lon: &str) -> [Option<
 
 /// The faults of the records of points.txt by themselves.
 pub(crate) fn point_faults(alloc: Global, table: &Table) -> Result<Listed<Fault>, NoMemory>
-    ensures { IfOk result (λ faults. faults ≡ record_faults Files.Points TimesFaults.point_rules (entries_of table.now)) }
+    ensures { IfOk result (λ faults. faults ≡ record_faults Files.Points TimesFaults.point_rules
+        (entries_of table.now)) }
 {
     let point_id = table.column("point_id");
     let point_lat = table.column("point_lat");
@@ -49,7 +52,9 @@ pub(crate) fn point_faults(alloc: Global, table: &Table) -> Result<Listed<Fault>
 
 // A point by the texts of its columns.
 fn point_of(alloc: Global, id: &str, lon: &str, lat: &str) -> Result<Point, NoMemory>
-    ensures { IfOk result (λ point. point ≡ record { id = id.now; at = record { lon = coordinate 180 lon.now; lat = coordinate 90 lat.now } }) }
+    ensures { IfOk result
+        (λ point. point ≡ record { id = id.now; at = record
+        { lon = coordinate 180 lon.now; lat = coordinate 90 lat.now } }) }
 {
     Ok(Point {
         id: text_of(alloc, id)?,
@@ -62,7 +67,8 @@ fn point_of(alloc: Global, id: &str, lon: &str, lat: &str) -> Result<Point, NoMe
 
 /// The points of points.txt, in the order of the file.
 pub(crate) fn points_of(alloc: Global, table: &Table) -> Result<Listed<Point>, NoMemory>
-    ensures { IfOk result (λ points. points ≡ map TimesValue.point_of (map (λ e. e.values) (entries_of table.now))) }
+    ensures { IfOk result (λ points. points ≡ map TimesValue.point_of
+        (map (λ e. e.values) (entries_of table.now))) }
 {
     let point_id = table.column("point_id");
     let point_lat = table.column("point_lat");

@@ -18,12 +18,13 @@ ghost use Rattle.place_times.specs.Levels.{AreAcceptedTables, AreLinked, AreRead
 ghost use Rattle.place_times.specs.Places.{AreAcceptedSpans, ArePlaceIds};
 
 use crate::fetch::TimesFiles;
-use crate::file_faults::{MOST_DIRECT, MOST_WALK, table_faults};
+use crate::file_faults::table_faults;
 use crate::found::{Found, read_file};
 use crate::links::{point_link_faults, span_link_faults};
 use crate::places::{PlaceIds, place_ids};
 use crate::point_records::points_of;
 use crate::spans::spans_of;
+use flex_model::limits::{GREATEST_DIRECT, GREATEST_WALK};
 use flex_model::{
     Fault, FaultCode, Feed, InputFile, Listed, NoMemory, Point, RawFile, Span, Times,
 };
@@ -155,7 +156,8 @@ fn found_point_links(
     found: &Found,
     ids: &PlaceIds<'_>,
 ) -> Result<Listed<Fault>, NoMemory>
-    ensures { IfOk result (λ faults. (feed : Feeds.Feed) (points : List Places.Point) → ArePlaceIds feed points ids.now → faults ≡ point_link_list feed found.now) }
+    ensures { IfOk result (λ faults. (feed : Feeds.Feed) (points : List Places.Point)
+        → ArePlaceIds feed points ids.now → faults ≡ point_link_list feed found.now) }
 {
     match found {
         Found::Read(table) => point_link_faults(alloc, table, ids),
@@ -170,7 +172,8 @@ fn found_span_links(
     found: &Found,
     ids: &PlaceIds<'_>,
 ) -> Result<Listed<Fault>, NoMemory>
-    ensures { IfOk result (λ faults. (feed : Feeds.Feed) (points : List Values) → ArePlaceIds feed (map point_of points) ids.now
+    ensures { IfOk result (λ faults. (feed : Feeds.Feed) (points : List Values)
+        → ArePlaceIds feed (map point_of points) ids.now
         → faults ≡ span_link_list feed points file found.now) }
 {
     match found {
@@ -185,7 +188,8 @@ fn link_list(
     tables: &TimesTables,
     ids: &PlaceIds<'_>,
 ) -> Result<Listed<Fault>, NoMemory>
-    ensures { IfOk result (λ faults. (feed : Feeds.Feed) (points : List Values) → ArePlaceIds feed (map point_of points) ids.now
+    ensures { IfOk result (λ faults. (feed : Feeds.Feed) (points : List Values)
+        → ArePlaceIds feed (map point_of points) ids.now
         → faults ≡ Levels.link_list feed points tables.now) }
 {
     let mut faults = found_point_links(alloc, &tables.points, ids)?;
@@ -214,9 +218,11 @@ fn found_spans(
     most: u64,
 ) -> Result<Listed<Span>, NoMemory>
     requires { most < 2 ^ 32 }
-    ensures { IfOk result (λ spans. (feed : Feeds.Feed) (points : List Values) (file : Files.InputFile) → ArePlaceIds feed (map point_of points) ids.now
+    ensures { IfOk result (λ spans. (feed : Feeds.Feed) (points : List Values)
+        (file : Files.InputFile) → ArePlaceIds feed (map point_of points) ids.now
         → AreAcceptedSpans feed points file most (records_of found.now)
-        → spans ≡ rising span_before (map (Value.span_of feed (map point_of points)) (values_of_found found.now))) }
+        → spans ≡ rising span_before (map (Value.span_of feed (map point_of points))
+        (values_of_found found.now))) }
 {
     match found {
         Found::Read(table) => spans_of(alloc, table, ids, most),
@@ -241,8 +247,8 @@ fn linked_spans(
     if !faults.as_slice().is_empty() {
         return Ok(LinkedSpans::Faulty(faults));
     }
-    let direct = found_spans(alloc, &tables.direct, &ids, MOST_DIRECT)?;
-    let walks = found_spans(alloc, &tables.walks, &ids, MOST_WALK)?;
+    let direct = found_spans(alloc, &tables.direct, &ids, GREATEST_DIRECT)?;
+    let walks = found_spans(alloc, &tables.walks, &ids, GREATEST_WALK)?;
     Ok(LinkedSpans::Clean { direct, walks })
 }
 
@@ -250,7 +256,9 @@ fn linked_spans(
 fn read_accepted(alloc: Global, feed: &Feed, tables: &TimesTables) -> Result<ReadTimes, NoMemory>
     requires feed { IsSoundFeed feed.now }
     requires accepted { AreAcceptedTables tables.now }
-    ensures { IfOk result (HoldsTimes (Levels.link_list feed.now (values_of_found tables.now.points) tables.now) (times_in feed.now tables.now)) }
+    ensures { IfOk result (HoldsTimes
+        (Levels.link_list feed.now (values_of_found tables.now.points) tables.now)
+        (times_in feed.now tables.now)) }
 {
     let points = found_points(alloc, &tables.points)?;
     match linked_spans(alloc, feed, points.as_slice(), tables)? {
@@ -273,7 +281,8 @@ pub(crate) fn read_times(
 ) -> Result<ReadTimes, NoMemory>
     requires feed { IsSoundFeed feed.now }
     requires counted { AreCounted files.now }
-    ensures { IfOk result (λ read. (folder : Folder) → AreFetched folder files.now → AreRead (judged false) feed.now folder read) }
+    ensures { IfOk result (λ read. (folder : Folder) → AreFetched folder files.now
+        → AreRead (judged false) feed.now folder read) }
 {
     let tables = read_tables(alloc, files)?;
     let zone = zone_fault(&files.zone_text, &files.zone_tzif, false);

@@ -21,8 +21,10 @@ fn span_rules(
     seconds: Option<u32>,
     is_repeated: bool,
 ) -> [Option<FaultCode>; 4]
-    ensures { (most : ℕ) (earlier : List Values) (r : Values) → from.now ≡ r "from_id" → to.now ≡ r "to_id" → seconds ≡ count most (r "seconds")
-        → is_repeated ≡ repeats_ids "from_id" "to_id" earlier r → result ≡ TimesFaults.span_rules most earlier r }
+    ensures { (most : ℕ) (earlier : List Values) (r : Values) → from.now ≡ r "from_id"
+        → to.now ≡ r "to_id" → seconds ≡ count most (r "seconds")
+        → is_repeated ≡ repeats_ids "from_id" "to_id" earlier r
+        → result ≡ TimesFaults.span_rules most earlier r }
 {
     [
         rule(FaultCode::EmptyField, is_empty(from)),
@@ -40,7 +42,8 @@ pub(crate) fn span_faults(
     table: &Table,
 ) -> Result<Listed<Fault>, NoMemory>
     requires { most < 2 ^ 32 }
-    ensures { IfOk result (λ faults. faults ≡ record_faults file (TimesFaults.span_rules most) (entries_of table.now)) }
+    ensures { IfOk result (λ faults. faults ≡ record_faults file (TimesFaults.span_rules most)
+        (entries_of table.now)) }
 {
     let from_id = table.column("from_id");
     let to_id = table.column("to_id");

@@ -23,7 +23,8 @@ use std::cmp::Ordering;
 // A span by the texts of its columns.
 fn span_of(ids: &PlaceIds<'_>, from: &str, to: &str, seconds: &str, most: u64) -> Span
     requires { most < 2 ^ 32 }
-    ensures { (feed : Feeds.Feed) (points : List Places.Point) → ArePlaceIds feed points ids.now → result ≡ span_by feed points most from.now to.now seconds.now }
+    ensures { (feed : Feeds.Feed) (points : List Places.Point) → ArePlaceIds feed points ids.now
+        → result ≡ span_by feed points most from.now to.now seconds.now }
 {
     Span {
         from: place_named(ids, from),
@@ -40,8 +41,10 @@ fn unsorted_spans(
     most: u64,
 ) -> Result<Vec<Span>, NoMemory>
     requires { most < 2 ^ 32 }
-    ensures { IfOk result (λ spans. (feed : Feeds.Feed) (points : List Places.Point) → ArePlaceIds feed points ids.now
-        → spans.items ≡ map (read_span feed points most) (map (λ e. e.values) (entries_of table.now))) }
+    ensures { IfOk result (λ spans. (feed : Feeds.Feed) (points : List Places.Point)
+        → ArePlaceIds feed points ids.now
+        → spans.items ≡ map (read_span feed points most)
+        (map (λ e. e.values) (entries_of table.now))) }
 {
     let from_id = table.column("from_id");
     let to_id = table.column("to_id");
@@ -81,9 +84,11 @@ pub(crate) fn spans_of(
     most: u64,
 ) -> Result<Listed<Span>, NoMemory>
     requires { most < 2 ^ 32 }
-    ensures { IfOk result (λ spans. (feed : Feeds.Feed) (points : List Values) (file : Files.InputFile) → ArePlaceIds feed (map point_of points) ids.now
+    ensures { IfOk result (λ spans. (feed : Feeds.Feed) (points : List Values)
+        (file : Files.InputFile) → ArePlaceIds feed (map point_of points) ids.now
         → AreAcceptedSpans feed points file most (entries_of table.now)
-        → spans ≡ rising span_before (map (Value.span_of feed (map point_of points)) (map (λ e. e.values) (entries_of table.now)))) }
+        → spans ≡ rising span_before (map (Value.span_of feed (map point_of points))
+        (map (λ e. e.values) (entries_of table.now)))) }
 {
     let spans = unsorted_spans(alloc, table, ids, most)?;
     in_order(spans)

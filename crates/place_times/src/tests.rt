@@ -18,7 +18,9 @@ const RULE: (&str, &[u8]) = ("t/zone.txt", b"EST5EDT,M3.2.0,M11.1.0");
 const DEPART: Moment = 1_741_608_000;
 
 fn stop(alloc: Global, id: &str, boards: bool) -> Result<Stop, NoMemory>
-    ensures { IfOk result (λ stop. stop ≡ record { id = id.now; at = record { lon = pos 0; lat = pos 0 }; boards = boards }) }
+    ensures { IfOk result
+        (λ stop. stop ≡ record { id = id.now; at = record { lon = pos 0; lat = pos 0 }; boards =
+        boards }) }
 {
     let mut text = Text::new(alloc);
     text.append(id)?;
@@ -31,7 +33,8 @@ fn stop(alloc: Global, id: &str, boards: bool) -> Result<Stop, NoMemory>
 
 // Stops M and N, and K, where one can't board.
 fn stops(alloc: Global) -> Result<Listed<Stop>, NoMemory>
-    ensures { IfOk result (λ stops. stops ≡ (record { id = codes "M"; at = record { lon = pos 0; lat = pos 0 }; boards = true })
+    ensures { IfOk result
+        (λ stops. stops ≡ (record { id = codes "M"; at = record { lon = pos 0; lat = pos 0 }; boards = true })
         ∷ (record { id = codes "N"; at = record { lon = pos 0; lat = pos 0 }; boards = true })
         ∷ (record { id = codes "K"; at = record { lon = pos 0; lat = pos 0 }; boards = false }) ∷ []) }
 {

@@ -51,7 +51,7 @@ base_bounds days k base sound e =
     let lower = near.1 in
     (omega (arith, ints), omega (arith, ints))
 
--- the day begins at the base that stands at its place in the table
+-- the day begins at the base that stands at its index in the table
 pub begins_at_base : (days : DayTable) (day z base : ℤ) → IsSoundDayTable days → z ≡ day -ℤ days.first → pos 0 ≤ℤ z → z <ℤ pos 1526
     → base ≡ get_or days.base (nat_abs z) (pos 0) → BeginsAt days day base
 begins_at_base days day z base sound e low high at =

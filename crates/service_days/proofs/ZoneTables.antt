@@ -12,7 +12,7 @@ use Rattle.flex_model.specs.declared.query.Query.{Query}
 use Rattle.flex_model.specs.SoundQuery.{IsDayTableOf, IsQueryMoment, IsSoundDayTable}
 use Rattle.flex_model.specs.ServiceDay.{BeginsAt}
 use Rattle.flex_model.proofs.Found.{slice_get_unique}
-use Rattle.service_days.specs.Bases.{IsZone, UtcDaysBeginAtMidnight, base_of_noon, day_count, first_day, table_first, table_of, table_place, utc_bases, utc_bases_from, utc_noon}
+use Rattle.service_days.specs.Bases.{IsZone, UtcDaysBeginAtMidnight, base_of_noon, day_count, first_day, table_first, table_of, table_index, utc_bases, utc_bases_from, utc_noon}
 
 -- an item of a part of a list, in the list itself
 pub slice_get-slice_range : {X : Type 0} (xs : List X) (a b k : ℕ) (x : X) → slice_get (slice_range xs a b) k ≡ Some x → slice_get xs (a + k) ≡ Some x
@@ -56,18 +56,18 @@ utc_is_zone = record {
   near = λ k base e. near_itself base _ (utc-base first_day day_count k base e);
 }
 
--- one more base after those from a place on
-pub one_more : (bases : List ℤ) (start place : ℕ) (base : ℤ) → start ≤ place → slice_get bases place ≡ Some base
-    → take (place + 1 - start) (drop start bases) ≡ take (place - start) (drop start bases) ++ base ∷ []
-one_more bases start place base low e =
-    let within = slice_get_within bases place base e in
+-- one more base after those from a index on
+pub one_more : (bases : List ℤ) (start index : ℕ) (base : ℤ) → start ≤ index → slice_get bases index ≡ Some base
+    → take (index + 1 - start) (drop start bases) ≡ take (index - start) (drop start bases) ++ base ∷ []
+one_more bases start index base low e =
+    let within = slice_get_within bases index base e in
     let size = length-drop start bases in
-    let step : place + 1 - start ≡ (place - start) + 1 = omega arith in
-    let at : start + (place - start) ≡ place = omega arith in
-    let value : get_or (drop start bases) (place - start) (pos 0) ≡ base =
-    get_or-drop start bases (place - start) (pos 0) ∙ ap (λ n. get_or bases n (pos 0)) at ∙ get_or_from_slice_get bases place base (pos 0) e in
-    ap (λ n. take n (drop start bases)) step ∙ take_more (drop start bases) (place - start) (pos 0) (omega (arith, size, within))
-    ∙ ap (λ x. take (place - start) (drop start bases) ++ x ∷ []) value
+    let step : index + 1 - start ≡ (index - start) + 1 = omega arith in
+    let at : start + (index - start) ≡ index = omega arith in
+    let value : get_or (drop start bases) (index - start) (pos 0) ≡ base =
+    get_or-drop start bases (index - start) (pos 0) ∙ ap (λ n. get_or bases n (pos 0)) at ∙ get_or_from_slice_get bases index base (pos 0) e in
+    ap (λ n. take n (drop start bases)) step ∙ take_more (drop start bases) (index - start) (pos 0) (omega (arith, size, within))
+    ∙ ap (λ x. take (index - start) (drop start bases) ++ x ∷ []) value
 
 -- the day of a departure
 pub day_bounds : (depart : ℤ) → IsQueryMoment depart → (pos 7305 ≤ℤ int_div_euclid depart (pos 86400)) × (int_div_euclid depart (pos 86400) ≤ℤ pos 84005)
@@ -83,13 +83,13 @@ place_of z n e low =
     ap unsigned_abs back
 
 -- the table that was made is the departure's
-pub table_made : (bases base : List ℤ) (depart day : ℤ) (first start place : ℕ) → pos first ≡ table_first depart → day ≡ pos first → first_day ≤ first
-    → start ≡ first - first_day → base ≡ take (place - start) (drop start bases) → place ≡ start + 1526
+pub table_made : (bases base : List ℤ) (depart day : ℤ) (first start index : ℕ) → pos first ≡ table_first depart → day ≡ pos first → first_day ≤ first
+    → start ≡ first - first_day → base ≡ take (index - start) (drop start bases) → index ≡ start + 1526
     → (let made : DayTable = record { first = day; base = base } in made) ≡ table_of bases depart
 unfolding table_of
-table_made bases base depart day first start place is same low at taken end =
-    let place_is : table_place depart ≡ start = place_of (table_first depart) first is low ∙ sym at in
-    let base_is : base ≡ slice_range bases (table_place depart) (table_place depart + 1526) =
+table_made bases base depart day first start index is same low at taken end =
+    let place_is : table_index depart ≡ start = place_of (table_first depart) first is low ∙ sym at in
+    let base_is : base ≡ slice_range bases (table_index depart) (table_index depart + 1526) =
     taken ∙ ap (λ p. take (p - start) (drop start bases)) end ∙ ap (λ s. take (s + 1526 - s) (drop s bases)) (sym place_is) in
     let day_is : day ≡ table_first depart = same ∙ is in
     ap (λ d. let t : DayTable = record { first = d; base = base } in t) day_is ∙ ap (λ b. let t : DayTable = record { first = table_first depart; base = b } in t) base_is
@@ -110,7 +110,7 @@ table_is_sound bases depart zone sound =
     let low = bounds.0 in
     let high = bounds.1 in
     let first = table_first depart in
-    let start = table_place depart in
+    let start = table_index depart in
     let at : pos start ≡ first -ℤ pos first_day = place_is first (omega (arith, ints)) in
     let size = length-drop start bases in
     let all : length bases ≡ day_count = zone.count in
@@ -136,7 +136,7 @@ utc_begin depart day base sound begins =
     let bounds = day_bounds depart sound in
     let low = bounds.0 in
     let first = table_first depart in
-    let start = table_place depart in
+    let start = table_index depart in
     let k = begins.0 in
     let at : pos start ≡ first -ℤ pos first_day = place_is first (omega (arith, ints)) in
     let there = slice_get-slice_range utc_bases start (start + 1526) k base begins.1 in

@@ -42,18 +42,19 @@ abbrev pub table_first : ℤ → ℤ
 table_first depart = int_div_euclid depart (pos 86400) -ℤ pos 1520
 
 -- where the first day of a departure's table stands among the days of a zone
-abbrev pub table_place : ℤ → ℕ
-table_place depart = unsigned_abs (table_first depart -ℤ pos first_day)
+abbrev pub table_index : ℤ → ℕ
+table_index depart = unsigned_abs (table_first depart -ℤ pos first_day)
 
 -- the day table of a departure in a zone with these bases: 1,526 days, the last of them 5 days after the departure's
 unfoldable pub table_of : List ℤ → ℤ → DayTable
 table_of bases depart = record {
   first = table_first depart;
-  base = slice_range bases (table_place depart) (table_place depart + 1526);
+  base = slice_range bases (table_index depart) (table_index depart + 1526);
 }
 
 -- In UTC the days of a departure's table are the 1,526 days from its first one on, and each begins at its midnight.
 abbrev pub UtcDaysBeginAtMidnight : Type 0
 UtcDaysBeginAtMidnight = (depart day base : ℤ) → IsQueryMoment depart
     → BeginsAt (table_of utc_bases depart) day base
-    ↔ ((table_first depart ≤ℤ day) × (day ≤ℤ (table_first depart +ℤ pos 1525)) × (base ≡ pos 86400 *ℤ day))
+    ↔ ((table_first depart ≤ℤ day) × (day ≤ℤ (table_first depart +ℤ pos 1525))
+    × (base ≡ pos 86400 *ℤ day))

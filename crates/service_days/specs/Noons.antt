@@ -14,9 +14,11 @@ IsNoonOf day noon = (epoch_day noon.date ≡ day) × IsHms (pos 12) (pos 0) (pos
 abbrev pub IsBaseIn : TimeZone → ℤ → ℤ → Type 0
 IsBaseIn zone day base =
     (noon : DateTime) × IsNoonOf day noon
-    × (nanos_of_seconds (base +ℤ pos 43200) ≡ instant_of noon (compatible_offset (ambiguous_at zone noon)))
+    × (nanos_of_seconds (base +ℤ pos 43200) ≡ instant_of noon
+    (compatible_offset (ambiguous_at zone noon)))
 
 -- the bases of all of a zone's days
 pub record HasBasesOf (zone : TimeZone) (bases : List ℤ) : Type 0 where
   pub count : length bases ≡ day_count
-  pub each : (k : ℕ) (base : ℤ) → slice_get bases k ≡ Some base → IsBaseIn zone (pos first_day +ℤ pos k) base
+  pub each : (k : ℕ) (base : ℤ) → slice_get bases k ≡ Some base
+      → IsBaseIn zone (pos first_day +ℤ pos k) base

@@ -24,7 +24,8 @@ IsUtcText Tzif bytes = ⊥
 -- bytes that can't be read, whatever memory there is: they aren't UTF-8, or are neither the text of UTC nor a rule; or they
 -- break the format of a zone file
 abbrev pub IsMalformed : ZoneForm → List ℕ → Type 0
-IsMalformed Posix bytes = (IsUtf8 bytes → ⊥) ⊎ ((zone_text bytes ≢ codes "UTC0") × (read_whole (zone_text bytes) ≡ None))
+IsMalformed Posix bytes = (IsUtf8 bytes → ⊥)
+    ⊎ ((zone_text bytes ≢ codes "UTC0") × (read_whole (zone_text bytes) ≡ None))
 IsMalformed Tzif bytes = (fault : TzifFault) × (read_tzif bytes ≡ Err fault)
 
 -- A bad zone is what can't be read, or a zone file that its reader refuses for another cause than memory: beside those that
@@ -45,11 +46,13 @@ IsZoneOf Tzif bytes zone = IsTzifZone bytes zone
 
 -- the bases of such a zone
 abbrev pub HasBasesOfBytes : ZoneForm → List ℕ → List ℤ → Type 0
-HasBasesOfBytes form bytes bases = (zone : TimeZone) × IsZoneOf form bytes zone × HasBasesOf zone bases
+HasBasesOfBytes form bytes bases =
+    (zone : TimeZone) × IsZoneOf form bytes zone × HasBasesOf zone bases
 
 -- What is answered for the bytes of a zone. Want of memory may be answered wherever it isn't ruled out: never for the text of
 -- UTC, nor for bytes that can't be read.
-pub record IsZoneAnswer (form : ZoneForm) (bytes : List ℕ) (answer : Result (List ℤ) ZoneRefusal) : Type 0 where
+pub record IsZoneAnswer (form : ZoneForm) (bytes : List ℕ)
+    (answer : Result (List ℤ) ZoneRefusal) : Type 0 where
   pub utc : IsUtcText form bytes → answer ≡ Ok utc_bases
   pub bases : IfOk answer (λ bases. (IsUtcText form bytes → ⊥) → HasBasesOfBytes form bytes bases)
   pub good : IfOk answer (λ bases. IsBadZone form bytes → ⊥)

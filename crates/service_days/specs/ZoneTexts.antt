@@ -11,7 +11,8 @@ unfoldable pub without_mark : List ℕ → List ℕ
 without_mark [] = []
 without_mark (a ∷ []) = a ∷ []
 without_mark (a ∷ b ∷ []) = a ∷ b ∷ []
-without_mark (a ∷ b ∷ c ∷ rest) = if (a == 239) && (b == 187) && (c == 191) then rest else a ∷ b ∷ c ∷ rest
+without_mark (a ∷ b ∷ c ∷ rest) =
+    if (a == 239) && (b == 187) && (c == 191) then rest else a ∷ b ∷ c ∷ rest
 
 -- the bytes without the blanks at their start
 unfoldable pub without_leading : List ℕ → List ℕ

@@ -4,6 +4,7 @@ ghost use Rattle.std.specs.Prelude.{◌≡◌, ◌↔◌, ◌<◌, ◌+ℤ◌, �
 ghost use Rattle.flex_model.specs.ServiceDay.{IsBack, IsDaysBack};
 
 use crate::services::runs_on;
+use flex_model::limits::MOST_DAYS_BACK;
 use flex_model::{Feed, Service};
 
 /// The day that lies `n` active days of the service back from the day. There is none where it would lie more
@@ -15,7 +16,7 @@ pub fn days_back(service: &Service, day: i32, n: u32) -> Option<i32>
         return Some(day);
     }
     let mut found = 0;
-    for between in 0..1_500_u32 {
+    for between in 0..MOST_DAYS_BACK {
         let earlier = i64::from(day) - i64::from(between + 1);
         if runs_on(service, earlier) {
             found += 1;

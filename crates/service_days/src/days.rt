@@ -4,14 +4,16 @@ ghost use Rattle.std.specs.Prelude.{◌≡◌, ◌↔◌, ◌+ℤ◌, ◌≤ℤ�
 ghost use Rattle.flex_model.specs.ServiceDay.{BeginsAt, IsMoment, IsTravelDay};
 ghost use Rattle.flex_model.specs.SoundQuery.{IsSoundDayTable};
 
+use flex_model::limits::{TABLE_DAYS, TRAVEL_DAYS};
 use flex_model::{DayTable, Moment};
 
 /// The first of the 22 travel days of the table, which are its last days.
 pub fn first_travel_day(days: &DayTable) -> i32
     requires { IsSoundDayTable days.now }
-    ensures { (day : ℤ) → IsTravelDay days.now day ↔ ((result ≤ℤ day) × (day ≤ℤ (result +ℤ pos 21))) }
+    ensures { (day : ℤ) → IsTravelDay days.now day
+        ↔ ((result ≤ℤ day) × (day ≤ℤ (result +ℤ pos 21))) }
 {
-    days.first + 1_504
+    days.first + (TABLE_DAYS - TRAVEL_DAYS) as i32
 }
 
 /// Whether the day is one of the 22 travel days of the table.
@@ -20,7 +22,7 @@ pub fn is_travel_day(days: &DayTable, day: i32) -> bool
     ensures { IsTrue result ↔ IsTravelDay days.now day }
 {
     let first = first_travel_day(days);
-    first <= day && i64::from(day) <= i64::from(first) + 21
+    first <= day && i64::from(day) < i64::from(first) + TRAVEL_DAYS as i64
 }
 
 /// The moment at which the service day begins, 12 hours before its noon. A day that the table lacks has none.

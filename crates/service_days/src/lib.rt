@@ -20,6 +20,3 @@ pub use reading::read_zone;
 pub use running::is_running;
 pub use services::active;
 pub use zone::{ZoneValue, day_table};
-
-#[cfg(test)]
-mod tests;

@@ -43,8 +43,8 @@ pub(crate) fn zone_bases(alloc: Global, zone: &TimeZone<'_>) -> Result<Listed<i6
     ensures zone { IfOk result IsZone }
 {
     let mut bases = Listed::new(alloc);
-    for place in 0..DAY_COUNT {
-        bases.push(base_of(zone, date_of(i64::from(FIRST_DAY + place))))?;
+    for index in 0..DAY_COUNT {
+        bases.push(base_of(zone, date_of(i64::from(FIRST_DAY + index))))?;
     }
     Ok(bases)
 }

@@ -5,6 +5,7 @@ ghost use Rattle.flex_model.specs.declared.query.Query.{Query};
 ghost use Rattle.flex_model.specs.SoundQuery.{IsDayTableOf, IsQueryMoment, IsSoundDayTable};
 ghost use Rattle.service_days.specs.Bases.{IsZone, base_of_noon, day_count, first_day, table_first, table_of, utc_bases, utc_noon};
 
+use flex_model::limits::{TABLE_DAYS, TABLE_DAYS_BEFORE};
 use flex_model::{DayTable, Listed, Moment, NoMemory};
 use std::alloc::Global;
 use std::marker::Model;
@@ -13,11 +14,6 @@ use std::marker::Model;
 pub(crate) const FIRST_DAY: u32 = 5_785;
 
 pub(crate) const DAY_COUNT: u32 = 78_226;
-
-// How many days a table has before the day of its departure, and how many in all.
-const DAYS_BEFORE: u32 = 1_520;
-
-const TABLE_DAYS: usize = 1_526;
 
 /// A time zone, by the begins of its service days: the moments 12 hours before noon, from day 5,785 since 1970-01-01
 /// to day 84,010. These are the days of the tables of all departures of the years 1990 to 2199.
@@ -55,14 +51,14 @@ impl ZoneValue {
         ZoneValue { given: Some(bases) }
     }
 
-    // The base of the day at a place.
-    fn base_at(&self, place: usize) -> Moment
-        requires { place < day_count }
-        ensures { slice_get self.now place ≡ Some result }
+    // The base of the day at a index.
+    fn base_at(&self, index: usize) -> Moment
+        requires { index < day_count }
+        ensures { slice_get self.now index ≡ Some result }
     {
         match &self.given {
-            Some(bases) => bases.as_slice()[place],
-            None => utc_base(FIRST_DAY + place as u32),
+            Some(bases) => bases.as_slice()[index],
+            None => utc_base(FIRST_DAY + index as u32),
         }
     }
 }
@@ -81,7 +77,7 @@ fn first_of(depart: Moment) -> u32
     ensures low { first_day ≤ result }
     ensures high { result + 1526 ≤ first_day + day_count }
 {
-    (depart as u64 / 86_400) as u32 - DAYS_BEFORE
+    (depart as u64 / 86_400) as u32 - TABLE_DAYS_BEFORE
 }
 
 /// The begins of the service days from 1,520 days before the departure's day to 5 days after it. The departure's
@@ -89,15 +85,16 @@ fn first_of(depart: Moment) -> u32
 pub fn day_table(alloc: Global, zone: &ZoneValue, depart: Moment) -> Result<DayTable, NoMemory>
     requires { IsQueryMoment depart }
     ensures table { IfOk result (λ days. days ≡ table_of zone.now depart) }
-    ensures of_query { IfOk result (λ days. (query : Query) → query.depart ≡ depart → IsDayTableOf query days) }
+    ensures of_query { IfOk result (λ days. (query : Query) → query.depart ≡ depart
+        → IsDayTableOf query days) }
     ensures sound { IfOk result IsSoundDayTable }
 {
     let _given = &zone.given;
     let first = first_of(depart);
     let start = (first - FIRST_DAY) as usize;
     let mut base = Listed::new(alloc);
-    for place in start..start + TABLE_DAYS {
-        base.push(zone.base_at(place))?;
+    for index in start..start + TABLE_DAYS {
+        base.push(zone.base_at(index))?;
     }
     Ok(DayTable {
         first: first as i32,

@@ -34,7 +34,8 @@ pub fn change(feed: &Feed, a: Place, b: Place) -> Option<u32>
 fn change_kind(changes: &[ChangeRow], from: u32, to: u32) -> Option<ChangeKind>
     requires { AllPairs IsChangeBefore changes.now }
     ensures { (kind : ChangeKind)
-        → Contains changes.now (record { from = from; to = to; kind = kind }) ↔ (result ≡ Some kind) }
+        → Contains changes.now (record { from = from; to = to; kind = kind })
+        ↔ (result ≡ Some kind) }
 {
     match changes.binary_search_by(move |row| compare_change(row, from, to)) {
         Ok(index) => Some(changes[index].kind),

@@ -10,7 +10,8 @@ use flex_model::{Place, Query, Times, walk};
 /// from the origin. There is none where the walks lack the pair, and at a point that isn't the origin. This project's own.
 pub fn access(times: &Times, query: &Query, place: Place) -> Option<u32>
     requires { AreRisingTimes times.now }
-    ensures { (seconds : ℕ) → HasAccess times.now query.entry.now place seconds ↔ (result ≡ Some seconds) }
+    ensures { (seconds : ℕ) → HasAccess times.now query.entry.now place seconds
+        ↔ (result ≡ Some seconds) }
 {
     if is_same(place, query.origin) {
         return Some(0);
@@ -26,7 +27,8 @@ pub fn access(times: &Times, query: &Query, place: Place) -> Option<u32>
 /// destination. This project's own.
 pub fn egress(times: &Times, query: &Query, place: Place) -> Option<u32>
     requires { AreRisingTimes times.now }
-    ensures { (seconds : ℕ) → HasEgress times.now query.entry.now place seconds ↔ (result ≡ Some seconds) }
+    ensures { (seconds : ℕ) → HasEgress times.now query.entry.now place seconds
+        ↔ (result ≡ Some seconds) }
 {
     if is_same(place, query.destination) {
         return Some(0);

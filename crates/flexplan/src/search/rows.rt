@@ -143,6 +143,7 @@ fn ride_to(
     Some(Ride {
         trip: on.trip,
         day: on.day,
+        start: None,
         from_row: from.row,
         to_row: index,
         board: query.origin,

@@ -21,7 +21,8 @@ fn best_of_day(feed: &Feed, days: &DayTable, query: &Query, on: &TripDay) -> Opt
     requires depart { IsQueryMoment query.now.depart }
     requires trip { on.now.trip < length feed.now.trips }
     ensures { (times : Times)
-        → IsEarliest (IsCandidateOn feed.now times days.now query.entry.now on.now.trip on.now.day) result }
+        → IsEarliest (IsCandidateOn feed.now times days.now query.entry.now on.now.trip on.now.day)
+        result }
 {
     let trip = &feed.trips.as_slice()[on.trip as usize];
     if !is_running(feed, days, trip, on.day) {
@@ -57,7 +58,8 @@ pub fn best_ride(feed: &Feed, days: &DayTable, query: &Query) -> Option<Ride>
     requires plain { IsPlainFeed feed.now }
     requires days { IsSoundDayTable days.now }
     requires depart { IsQueryMoment query.now.depart }
-    ensures { (times : Times) → IsEarliest (IsCandidate feed.now times days.now query.entry.now) result }
+    ensures { (times : Times) → IsEarliest
+        (IsCandidate feed.now times days.now query.entry.now) result }
 {
     let mut best = None;
     for trip in 0..feed.trips.as_slice().len() as u32 {

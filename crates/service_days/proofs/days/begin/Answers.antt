@@ -1,4 +1,4 @@
--- The day begins at the base that stands at its place.
+-- The day begins at the base that stands at its index.
 use Rattle.std.proofs.Common.{◌-ℤ◌, pos, to_z, of_z, w64, get_or, subst, sym, ap, arith}
 use Rattle.std.proofs.lemmas.Int.{ints}
 use Rattle.std.specs.Prelude.{nat_abs}

@@ -9,26 +9,26 @@ use Rattle.service_days.specs.Noons.{IsBaseIn}
 use Rattle.service_days.proofs.NoonFacts.{each-none, each-push}
 use Rattle.service_days.proofs.noons.zone_bases.Goals as goal
 
-pub loop-place-init : goal.loop-place-init
-loop-place-init c = rw c.new-bases.ensures record {
+pub loop-index-init : goal.loop-index-init
+loop-index-init c = rw c.new-bases.ensures record {
   count = refl;
   each = each-none (λ k base. IsBaseIn (plain_zone c.args.zone.now) (pos first_day +ℤ pos k) base);
   near = each-none (λ k base. unsigned_abs (base -ℤ (pos 86400 *ℤ (pos first_day +ℤ pos k))) ≤ 93599);
 }
 
--- the day of a place
-day-at : (day from : ℤ) (place count : ℕ) → day ≡ to_z w64 (of_z w64 from) → from ≡ pos (5785 + place) → place < 78226 → count ≡ place → day ≡ pos first_day +ℤ pos count
-day-at day from place count e f lt same = e ∙ rw (f, same) (grind (arith, ints, to_z-of_z))
+-- the day of a index
+day-at : (day from : ℤ) (index count : ℕ) → day ≡ to_z w64 (of_z w64 from) → from ≡ pos (5785 + index) → index < 78226 → count ≡ index → day ≡ pos first_day +ℤ pos count
+day-at day from index count e f lt same = e ∙ rw (f, same) (grind (arith, ints, to_z-of_z))
 
-pub loop-place-preserved : goal.loop-place-preserved
-loop-place-preserved c =
-    let i = c.loop-place.invariant in
+pub loop-index-preserved : goal.loop-index-preserved
+loop-index-preserved c =
+    let i = c.loop-index.invariant in
     let zone = plain_zone c.args.zone.now in
     let base = c.base_of.result in
-    let bases = c.loop-place.bases in
+    let bases = c.loop-index.bases in
     let item = to_z-of_z w64 base (record { sfits = c.base_of.type_inv }) in
     let pushed = c.in_ok-push.ensures.ok ∙ ap (λ b. bases ++ b ∷ []) item in
-    let day = day-at _ _ c.loop-place.place (length bases) c.date_of.ensures c.from.ensures c.loop-place-test.true i.count in
+    let day = day-at _ _ c.loop-index.index (length bases) c.date_of.ensures c.from.ensures c.loop-index-test.true i.count in
     let size = ap length pushed ∙ length-append bases (base ∷ []) in
     record {
       count = omega (arith, size, i.count);

@@ -15,7 +15,7 @@ returns c =
     slice_get_read services (length services) number service refl c.requires.service (c.index-as_slice-trip.is ∙ ap (λ all. get_or all number service) c.as_slice.ensures) in
     let wrap = to_z-of_z w32 c.args.day c.ranges.day in
     let asked : c.active.result ≡ is_active service c.args.day = subst (λ day. c.active.result ≡ is_active service day) wrap c.active.ensures in (
-      λ e. record { on_travel_day = subst (IsTravelDay c.args.days.now) wrap (c.is_travel_day.ensures.0 c.if-not-is_travel_day.false); runs = (service, at, sym asked ∙ e); not_frequent = c.if-trip.false },
+      λ e. record { on_travel_day = subst (IsTravelDay c.args.days.now) wrap (c.is_travel_day.ensures.0 c.if-not-is_travel_day.false); runs = (service, at, sym asked ∙ e) },
       λ running.
           let same : running.runs.0 ≡ service = slice_get_unique services number running.runs.0 service running.runs.1 at in
           asked ∙ sym (ap (λ s. is_active s c.args.day) same) ∙ running.runs.2,

@@ -8,6 +8,6 @@ use Rattle.service_days.proofs.zone.ZoneValue.base_at.Goals as goal
 
 pub returns-in-None : goal.returns-in-None
 returns-in-None c =
-    ap (λ bases. slice_get bases c.args.place) (sym c.self.view_is ∙ ap bases_of c.in-None.is)
-    ∙ utc-at first_day day_count c.args.place c.requires
+    ap (λ bases. slice_get bases c.args.index) (sym c.self.view_is ∙ ap bases_of c.in-None.is)
+    ∙ utc-at first_day day_count c.args.index c.requires
     ∙ ap Some (sym c.utc_base.ensures ∙ sym (to_z-of_z w64 c.utc_base.result (record { sfits = c.utc_base.type_inv })))
