@@ -41,7 +41,7 @@ just_within = record {
   in_order = lit< tt;
   on_travel_day = travels;
   runs = (weekdays [], refl, refl);
-  not_frequent = refl;
+  starts = refl;
   boards = permitted.boards;
   picks_up = is_booked;
   alights = (zone, at 502 5000, refl, (stop (codes "M") (at 502 5000), refl, refl, refl), refl);
@@ -62,7 +62,7 @@ not_past_end p =
     let of_trip = only_item (trip 36600) 0 p.trip p.of_trip in
     let at_boarding = subst (λ t. slice_get t.rows 0 ≡ Some p.boarding) of_trip p.at_boarding in
     let is_boarding : p.boarding ≡ boarding = same_Some p.boarding boarding (sym at_boarding) in
-    let leaves = subst (λ r. Leaves days past_end r.timing) is_boarding p.leaves in
+    let leaves = subst (λ r. Leaves days past_end (pos 0) r.timing) is_boarding p.leaves in
     let base : leaves.3.0 ≡ pos 86400 *ℤ pos 20243 = begins_at (pos 20243) leaves.3.0 leaves.3.1 in
     let departs : pos 1749031260 ≡ leaves.3.0 +ℤ pos (60 * leaves.0) = leaves.3.2 in
     let to : 60 * leaves.0 ≤ 36000 = leaves.2 in
@@ -104,7 +104,7 @@ later = record (answer.triple) { arrival = pos 1749024660 }
 
 not_best : IsParetoBest (feed 36000) (times 600) days query later → ⊥
 not_best p =
-    let same = p.best (ride ∷ []) answer.triple attained (record { deadline = omega (arith, ints); arrival = omega (arith, ints); transfers = lit≤ tt }) in
+    let same = p.best (ride ∷ []) answer.triple attained (record { deadline = omega (arith, ints); arrival = omega (arith, ints); transfers = lit≤ tt; walk = lit≤ tt }) in
     let arrival : pos 1749024600 ≡ pos 1749024660 = ap (λ t. t.arrival) same in
     omega (arith, ints)
 

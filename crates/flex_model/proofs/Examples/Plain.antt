@@ -1,6 +1,7 @@
 -- A small feed without demand-responsive services: two stops and one trip between them on one day.
-use Rattle.std.proofs.Common.{◌≡◌, ◌≢◌, ◌⊎◌, inl, inr, ◌∙◌, ◌++◌, length-append, slice_get, ◌-ℤ◌, ◌*ℤ◌, ◌*◌, ℕ, zero, suc, ◌+◌, ◌<◌, ◌≤◌, ℤ, pos, ◌+ℤ◌, true, false, List, [], ◌∷◌, Some, All, get_or, length, refl, sym, ap, subst, lit≤, lit<, arith}
+use Rattle.std.proofs.Common.{◌≡◌, ◌≢◌, ◌⊎◌, inl, inr, ◌∙◌, ◌++◌, length-append, slice_get, ◌-ℤ◌, ◌*ℤ◌, ◌*◌, ℕ, zero, suc, ◌+◌, ◌<◌, ◌≤◌, ℤ, pos, ◌+ℤ◌, true, false, List, [], ◌∷◌, None, Some, All, get_or, length, refl, sym, ap, subst, lit≤, lit<, arith}
 use Rattle.std.specs.Prelude.{codes}
+use Rattle.std.proofs.lemmas.Bool.{false≢true}
 use Rattle.std.proofs.lemmas.Int.{ints}
 use Rattle.std.proofs.lemmas.List.Elements.{All-cons, All-nil}
 use Rattle.std.proofs.lemmas.Option.{none-some, same_Some}
@@ -20,8 +21,8 @@ use Rattle.flex_model.specs.declared.trip.Timing.TheVariants as timing
 use Rattle.flex_model.specs.declared.trip.Trip.{Trip}
 use Rattle.flex_model.specs.declared.trip.Way.TheVariants.{Free}
 use Rattle.flex_model.specs.Place.{HasBoards}
-use Rattle.flex_model.specs.PlainFeed.{IsPlainFeed, IsPlainRow}
-use Rattle.flex_model.specs.SoundFeed.{DoesNotFall, IsChangeBefore, IsNamed, IsSoundChange, IsSoundFeed, IsSoundGroup, IsSoundNotice, IsSoundRow, IsSoundTrip, IsSoundZone}
+use Rattle.flex_model.specs.PlainFeed.{IsPlainFeed, IsPlainRow, IsPlainTrip}
+use Rattle.flex_model.specs.SoundFeed.{DoesNotFall, IsChangeBefore, IsNamed, IsSoundChange, IsSoundFeed, IsSoundGroup, IsSoundNotice, IsSoundRepeat, IsSoundRow, IsSoundTrip, IsSoundZone}
 use Rattle.flex_model.specs.SoundQuery.{IsSoundDayTable, IsSoundQuery}
 use Rattle.flex_model.specs.SoundTimes.{AreSoundTimes, AreSoundSpans, IsInRange, IsOnGlobe}
 use Rattle.flex_model.specs.Times.{IsSpanBefore}
@@ -37,7 +38,7 @@ row sequence s time = record { sequence = sequence; «spot» = spot.Stop s; timi
 
 -- from M at 08:00 to N at 08:20
 abbrev pub trip : Trip
-trip = record { id = codes "T"; service = 0; frequent = false; rows = row 1 0 28800 ∷ row 2 1 30000 ∷ [] }
+trip = record { id = codes "T"; service = 0; frequent = false; repeats = []; rows = row 1 0 28800 ∷ row 2 1 30000 ∷ [] }
 
 -- on 4 June 2025 alone
 abbrev pub service : Service
@@ -50,13 +51,20 @@ abbrev pub times : Times
 times = record { points = []; direct = []; walks = [] }
 
 abbrev pub query : ℕ → ℕ → Query
-query transfers horizon = record { id = codes "q1"; origin = place.Stop 0; destination = place.Stop 1; depart = pos 1749022200; now = pos 1748952000; transfers = transfers; horizon = horizon }
+query transfers horizon = record { id = codes "q1"; origin = place.Stop 0; destination = place.Stop 1; depart = pos 1749022200; now = pos 1748952000; transfers = transfers; horizon = horizon; walking = false }
 
 plain_row : (sequence s time : ℕ) → IsPlainRow (row sequence s time)
 plain_row sequence s time = record { «spot» = tt; timing = tt; pickup = tt; drop_off = tt }
 
+plain_trip : IsPlainTrip trip
+plain_trip = record { not_frequent = refl; rows = All-cons IsPlainRow (row 1 0 28800) (row 2 1 30000 ∷ []) (plain_row 1 0 28800) (All-one IsPlainRow (row 2 1 30000) (plain_row 2 1 30000)) }
+
+-- a trip that frequencies.txt names isn't plain
+not_frequent : IsPlainTrip (record trip { frequent = true }) → ⊥
+not_frequent p = false≢true (sym p.not_frequent)
+
 pub plain : IsPlainFeed feed
-plain = record { no_zones = refl; rows = All-one (λ trip. All IsPlainRow trip.rows) trip (All-cons IsPlainRow (row 1 0 28800) (row 2 1 30000 ∷ []) (plain_row 1 0 28800) (All-one IsPlainRow (row 2 1 30000) (plain_row 2 1 30000))) }
+plain = record { no_zones = refl; trips = All-one IsPlainTrip trip plain_trip }
 
 -- a feed with a zone isn't plain
 not_plain : IsPlainFeed (flex_feed 36000) → ⊥
@@ -83,6 +91,8 @@ sound_trip = record {
   rows = All-cons (IsSoundRow feed) (row 1 0 28800) (row 2 1 30000 ∷ []) (sound_row 1 0 28800 (lit< tt) (lit< tt)) (All-one (IsSoundRow feed) (row 2 1 30000) (sound_row 2 1 30000 (lit< tt) (lit< tt)));
   rising = AllPairs-cons (λ a b. a.sequence < b.sequence) (row 1 0 28800) (row 2 1 30000 ∷ []) (All-one (λ b. 1 < b.sequence) (row 2 1 30000) (lit< tt)) (AllPairs-cons (λ a b. a.sequence < b.sequence) (row 2 1 30000) [] (All-nil (λ b. 2 < b.sequence)) (AllPairs-nil (λ a b. a.sequence < b.sequence)));
   times = AllPairs-cons (λ a b. DoesNotFall a.timing b.timing) (row 1 0 28800) (row 2 1 30000 ∷ []) (All-one (λ b. DoesNotFall (row 1 0 28800).timing b.timing) (row 2 1 30000) (lit≤ tt)) (AllPairs-cons (λ a b. DoesNotFall a.timing b.timing) (row 2 1 30000) [] (All-nil (λ b. DoesNotFall (row 2 1 30000).timing b.timing)) (AllPairs-nil (λ a b. DoesNotFall a.timing b.timing)));
+  frequent = (λ e. refl, λ e. refl);
+  repeats = All-nil IsSoundRepeat;
 }
 
 pub sound_feed : IsSoundFeed feed

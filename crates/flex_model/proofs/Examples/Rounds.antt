@@ -12,11 +12,11 @@ use Rattle.flex_model.specs.declared.place.Place.TheVariants as place
 use Rattle.flex_model.specs.declared.ride.Ride.{Ride}
 use Rattle.flex_model.specs.Booking.{HasBooking, IsDeadline}
 use Rattle.flex_model.specs.Deadline.{IsNoLater}
-use Rattle.flex_model.specs.Flaw.{AreRecords, IsFirstFlaw, IsFirstJourneyFlaw, IsThrough, Passes, PassesAt, test_number}
+use Rattle.flex_model.specs.Flaw.{IsBetween, IsFirstFlaw, IsFirstJourneyFlaw, IsThrough, Passes, PassesAt, test_number}
 use Rattle.flex_model.specs.Journey.{EndsInTime, IsLabelPlace, IsPartialJourney, IsUsable, Reaches, limit}
 use Rattle.flex_model.specs.LabelTable.{AreApart, AreFound, IsAttained, IsLabelBefore}
 use Rattle.flex_model.specs.Place.{IsPlaceBefore}
-use Rattle.flex_model.specs.Ride.{Leaves}
+use Rattle.flex_model.specs.Ride.{Leaves, shift}
 use Rattle.flex_model.specs.ServiceDay.{IsBack}
 use Rattle.flex_model.proofs.DayLaws.{IsMoment_unique}
 use Rattle.flex_model.proofs.Examples.Changes.{by_rule, days, feed, first_free, first_ride, first_trip, first_usable, from_origin, is_free, journey, label, moment, on_foot, on_foot_only, query, rides, row, second_ride, second_usable, stop, times, travels, weekdays}
@@ -60,13 +60,14 @@ too_short p =
     omega (arith, ints)
 
 -- the label of the first round is attained by it, and is all that a search finds there
-reaches : Reaches feed times days (query 60) (first_ride ∷ []) (place.Stop 1) Never (pos 1749025200)
+reaches : Reaches feed times days (query 60) (first_ride ∷ []) (place.Stop 1) (record { deadline = Never; arrival = pos 1749025200; walk = 0 })
 unfolding first_part
 reaches = record {
   journey = first_part 60 (lit≤ tt);
   at_place = refl;
   booked = record { ride = first_ride; among = (0, lit< tt, refl); reached = first_free; least = least };
   arrives = refl;
+  walks = (first_ride, refl, (0, from_origin, omega (arith, ints), refl));
 }
   where
     least : (other : Ride) (its : Deadline) → Contains (first_ride ∷ []) other → IsDeadline feed days other its → IsNoLater Never its
@@ -76,13 +77,13 @@ reaches = record {
 found : AreFound feed times days (query 60) 1 (label ∷ [])
 found = record {
   attained = All-one (IsAttained feed times days (query 60) 1) label (first_ride ∷ [], refl, reaches);
-  apart = record { apart = λ i j a b e f same booked arrives. let first = only_index label i a e in let second = only_index label j b f in omega arith };
+  apart = record { apart = λ i j a b e f same covers. let first = only_index label i a e in let second = only_index label j b f in omega arith };
   rising = AllPairs-cons IsLabelBefore label [] (All-nil (IsLabelBefore label)) (AllPairs-nil IsLabelBefore);
 }
 
 -- a label and one of its place that arrives later with the same deadline aren't apart
 not_apart : AreApart (label ∷ (record label { arrival = pos 1749025260 }) ∷ []) → ⊥
-not_apart a = let same = a.apart 0 1 label (record label { arrival = pos 1749025260 }) refl refl refl tt (omega (arith, ints)) in omega (arith, same)
+not_apart a = let same = a.apart 0 1 label (record label { arrival = pos 1749025260 }) refl refl refl (record { deadline = tt; arrival = omega (arith, ints); walk = lit≤ tt }) in omega (arith, same)
 
 -- a label may stand at the destination, and at no other point
 at_destination : IsLabelPlace feed (query 60) (place.Point 0)
@@ -95,26 +96,27 @@ at_no_other_point e = cc
 abbrev late_ride : Ride
 late_ride = record first_ride { departs = pos 1749024001 }
 
-here : AreRecords feed late_ride (row 1 0 28800) (row 2 1 30000)
-here = (first_trip, record { of_trip = refl; at_boarding = refl; at_alighting = refl; in_order = lit< tt })
+here : IsBetween feed late_ride first_trip (row 1 0 28800) (row 2 1 30000)
+here = record { of_trip = refl; at_boarding = refl; at_alighting = refl; in_order = lit< tt }
 
 departs_wrongly : IsFirstFlaw feed times days late_ride WrongDeparture
 departs_wrongly = record { fails = fails; first = earlier }
   where
     fails : Passes feed times days late_ride WrongDeparture → ⊥
     fails p =
-        let leaves = of_records feed late_ride (λ boarding alighting. Leaves days late_ride boarding.timing) (row 1 0 28800) (row 2 1 30000) here p in
-        let same = IsMoment_unique days (pos 20243) 28800 (pos 1749024001) (pos 1749024000) leaves (moment 28800) in
+        let leaves = of_records feed late_ride (λ trip boarding alighting. Leaves days late_ride (shift trip late_ride.start) boarding.timing) first_trip (row 1 0 28800) (row 2 1 30000) here p in
+        let scheduled = IsMoment_unique days (pos 20243) 28800 leaves.0 (pos 1749024000) leaves.1 (moment 28800) in
+        let departs : pos 1749024001 ≡ leaves.0 +ℤ pos 0 = leaves.2 in
         omega (arith, ints)
 
     earlier : (flaw : RideFlaw) → test_number flaw < 7 → Passes feed times days late_ride flaw
     earlier NoTrip lt = (first_trip, refl, tt)
-    earlier NoRow lt = (row 1 0 28800, row 2 1 30000, here, tt)
+    earlier NoRow lt = (first_trip, row 1 0 28800, row 2 1 30000, here, tt)
     earlier NoDay lt = travels
     earlier NotActive lt = (first_trip, refl, (weekdays, refl, refl))
     earlier Frequent lt = (first_trip, refl, refl)
-    earlier NotBoarded lt = (row 1 0 28800, row 2 1 30000, here, (refl, is_free))
-    earlier NotAlighted lt = (row 1 0 28800, row 2 1 30000, here, (refl, is_free))
+    earlier NotBoarded lt = (first_trip, row 1 0 28800, row 2 1 30000, here, (refl, is_free))
+    earlier NotAlighted lt = (first_trip, row 1 0 28800, row 2 1 30000, here, (refl, is_free))
     earlier WrongDeparture lt = absurd (omega arith)
     earlier NoDirect lt = absurd (omega arith)
     earlier WrongArrival lt = absurd (omega arith)

@@ -1,6 +1,7 @@
 -- Values that are not sound, each by one condition.
-use Rattle.std.proofs.Common.{◌≡◌, ◌^◌, ◌*◌, inl, inr, ◌+◌, ◌≤◌, pos, negsuc, ◌+ℤ◌, [], ◌∷◌, None, refl, lit≤, lit<, arith}
+use Rattle.std.proofs.Common.{◌≡◌, ◌^◌, ◌*◌, inl, inr, ◌+◌, ◌≤◌, pos, negsuc, ◌+ℤ◌, true, [], ◌∷◌, None, refl, sym, lit≤, lit<, arith}
 use Rattle.std.specs.Prelude.{codes}
+use Rattle.std.proofs.lemmas.Bool.{false≢true}
 use Rattle.std.proofs.lemmas.Int.{ints}
 use Rattle.flex_model.specs.declared.booking.Notice.TheVariants.{Ahead, Days}
 use Rattle.flex_model.specs.declared.booking.SameDay.TheVariants.{Always, Greatest}
@@ -8,7 +9,7 @@ use Rattle.flex_model.specs.declared.change.ChangeKind.TheVariants.{Least, Forbi
 use Rattle.flex_model.specs.declared.place.Place.TheVariants as place
 use Rattle.flex_model.specs.declared.trip.Spot.TheVariants as spot
 use Rattle.flex_model.specs.declared.trip.Timing.TheVariants.{Times, Window}
-use Rattle.flex_model.specs.SoundFeed.{DoesNotFall, IsChangeBefore, IsSoundFeed, IsSoundKind, IsSoundNotice, IsSoundPolygon, IsSoundSpot, IsSoundTiming}
+use Rattle.flex_model.specs.SoundFeed.{DoesNotFall, IsChangeBefore, IsSoundFeed, IsSoundKind, IsSoundNotice, IsSoundPolygon, IsSoundRepeat, IsSoundSpot, IsSoundTrip, IsSoundTiming}
 use Rattle.flex_model.specs.SoundTimes.{AreIds, AreSoundTimes, IsOnGlobe}
 use Rattle.flex_model.specs.SoundQuery.{IsDayTableOf, IsQueryMoment, IsQueryPlace, IsSoundDayTable, IsSoundQuery}
 use Rattle.flex_model.specs.Times.{IsSpanBefore}
@@ -69,6 +70,20 @@ too_long_notice h = let le = h.0 in omega arith
 
 too_many_days : IsSoundNotice (dale.feed 36000) (Days (record { days = 1001; time = 0 }) None None) → ⊥
 too_many_days h = let le = h.0.days in omega arith
+
+-- a repeat has a start before its end
+one_start : IsSoundRepeat (record { first = 28800; end = 28801; headway = 86400 })
+one_start = record { in_order = lit< tt; end = lit< tt; some_headway = lit< tt; headway = lit≤ tt }
+
+no_start : IsSoundRepeat (record { first = 28800; end = 28800; headway = 600 }) → ⊥
+no_start r = let lt = r.in_order in omega arith
+
+no_headway : IsSoundRepeat (record { first = 28800; end = 30000; headway = 0 }) → ⊥
+no_headway r = let lt = r.some_headway in omega arith
+
+-- a trip that frequencies.txt names has a repeat
+unrepeated : IsSoundTrip (dale.feed 36000) (record (dale.trip 36000) { frequent = true }) → ⊥
+unrepeated t = false≢true (sym (t.frequent.1 refl))
 
 too_slow : IsSoundKind (Least 86401) → ⊥
 too_slow h = omega arith
