@@ -1,5 +1,5 @@
 -- A small feed without demand-responsive services: two stops and one trip between them on one day.
-use Rattle.std.proofs.Common.{◌≡◌, ◌≢◌, ◌⊎◌, inl, inr, ◌∙◌, ◌++◌, length-append, slice_get, ◌-ℤ◌, ◌*ℤ◌, ◌*◌, ℕ, zero, suc, ◌+◌, ◌<◌, ◌≤◌, ℤ, pos, ◌+ℤ◌, true, false, List, [], ◌∷◌, None, Some, All, get_or, length, refl, sym, ap, subst, lit≤, lit<, arith}
+use Rattle.std.proofs.Common.{◌≡◌, ◌≢◌, ◌⊎◌, inl, inr, ◌∙◌, ◌++◌, length-append, slice_get, ◌-ℤ◌, ◌*ℤ◌, ◌*◌, ℕ, zero, suc, ◌+◌, ◌<◌, ◌≤◌, ℤ, pos, ◌+ℤ◌, true, false, List, [], ◌∷◌, Some, All, get_or, length, refl, sym, ap, subst, lit≤, lit<, arith}
 use Rattle.std.specs.Prelude.{codes}
 use Rattle.std.proofs.lemmas.Bool.{false≢true}
 use Rattle.std.proofs.lemmas.Int.{ints}
