@@ -50,10 +50,11 @@ second_late s = let h = some_headways 29101 s in let e = h.1 in omega arith
 as_recorded : IsStart often 28800 → ⊥
 as_recorded s = let h = some_headways 28800 s in let e = h.1 in omega arith
 
--- the first ride of the day runs five minutes later than its records say
+-- the feed of this trip alone
 abbrev feed_of : Trip → Feed
 feed_of trip = record feed { trips = trip ∷ [] }
 
+-- the first ride of the day runs five minutes later than its records say
 abbrev ride : Ride
 ride = record first_ride { start = Some 29100; departs = pos 1749024300; arrives = pos 1749025500 }
 
