@@ -1,0 +1,152 @@
+-- Journeys and labels of two trips with a change, what isn't one of them, and why.
+use Rattle.std.proofs.Common.{◌≡◌, ◌*◌, None, codes, ℕ, zero, suc, ◌<◌, ◌≤◌, pos, ◌+ℤ◌, ◌≤ℤ◌, [], ◌∷◌, Some, Contains, slice_get, refl, sym, ap, subst, inl, lit≤, lit<, arith}
+use Rattle.std.proofs.lemmas.Int.{ints}
+use Rattle.std.proofs.lemmas.List.Elements.{All-nil}
+use Rattle.std.proofs.lemmas.Option.{same_Some}
+use Rattle.flex_model.specs.declared.flaw.JourneyFlaw.TheVariants as journey_flaw
+use Rattle.flex_model.specs.declared.flaw.RideFlaw.{RideFlaw}
+use Rattle.flex_model.specs.declared.flaw.RideFlaw.TheVariants.{NoTrip, NoRow, NoDay, NotActive, Frequent, NotBoarded, NotAlighted, WrongDeparture, NoDirect, WrongArrival}
+use Rattle.flex_model.specs.declared.moment.Deadline.{Deadline}
+use Rattle.flex_model.specs.declared.moment.Deadline.TheVariants.{At, Never}
+use Rattle.flex_model.specs.declared.place.Place.TheVariants as place
+use Rattle.flex_model.specs.declared.ride.Ride.{Ride}
+use Rattle.flex_model.specs.Booking.{HasBooking, IsDeadline}
+use Rattle.flex_model.specs.Deadline.{IsNoLater}
+use Rattle.flex_model.specs.Flaw.{IsBetween, IsFirstFlaw, IsFirstJourneyFlaw, IsThrough, Passes, PassesAt, test_number}
+use Rattle.flex_model.specs.Journey.{EndsInTime, IsLabelPlace, IsPartialJourney, IsUsable, Reaches, limit}
+use Rattle.flex_model.specs.LabelTable.{AreApart, AreFound, IsAttained, IsLabelBefore}
+use Rattle.flex_model.specs.Place.{IsPlaceBefore}
+use Rattle.flex_model.specs.Ride.{Leaves, shift}
+use Rattle.flex_model.specs.ServiceDay.{IsBack}
+use Rattle.flex_model.proofs.DayLaws.{IsMoment_unique}
+use Rattle.flex_model.proofs.Examples.Changes.{by_rule, days, feed, first_free, first_ride, first_trip, first_usable, from_origin, is_free, journey, label, moment, on_foot, on_foot_only, query, rides, row, second_ride, second_usable, stop, times, travels, weekdays}
+use Rattle.flex_model.proofs.Flaws.{journeys_flawed, of_records}
+use Rattle.flex_model.proofs.Found.{All-one, AllPairs-cons, AllPairs-nil, only_contained, only_index}
+
+-- stops come before points
+stop_first : IsPlaceBefore (place.Stop 9) (place.Point 0)
+stop_first = tt
+
+not_itself : IsPlaceBefore (place.Stop 1) (place.Stop 1) → ⊥
+not_itself lt = omega arith
+
+-- days of the calendar
+three_days : IsBack feed None (pos 20243) 3 (pos 20240)
+three_days = refl
+
+-- the first ride alone gets to N
+first_part : (horizon : ℕ) → 20 ≤ horizon → IsPartialJourney feed times days (query horizon) (first_ride ∷ [])
+first_part horizon late = record {
+  itinerary = record {
+    few = lit≤ tt;
+    usable = All-one (IsUsable feed times days (query horizon)) first_ride (first_usable horizon);
+    first = first_ride;
+    is_first = refl;
+    starts = (0, from_origin, omega (arith, ints));
+    changes = λ k d lt. absurd (omega arith);
+  };
+  last = first_ride;
+  is_last = refl;
+  place = inl (stop (codes "N"), refl, refl);
+  arrives = omega (arith, ints);
+}
+
+-- within 19 minutes it doesn't
+too_short : IsPartialJourney feed times days (query 19) (first_ride ∷ []) → ⊥
+too_short p =
+    let last : p.last ≡ first_ride = same_Some p.last first_ride (sym p.is_last) in
+    let arrives : p.last.arrives ≡ pos 1749025200 = ap (λ r. r.arrives) last in
+    let by : p.last.arrives ≤ℤ (pos 1749024000 +ℤ pos (60 * 19)) = p.arrives in
+    omega (arith, ints)
+
+-- the label of the first round is attained by it, and is all that a search finds there
+reaches : Reaches feed times days (query 60) (first_ride ∷ []) (place.Stop 1) (record { deadline = Never; arrival = pos 1749025200; walk = 0 })
+unfolding first_part
+reaches = record {
+  journey = first_part 60 (lit≤ tt);
+  at_place = refl;
+  booked = record { ride = first_ride; among = (0, lit< tt, refl); reached = first_free; least = least };
+  arrives = refl;
+  walks = (first_ride, refl, (0, from_origin, omega (arith, ints), refl));
+}
+  where
+    least : (other : Ride) (its : Deadline) → Contains (first_ride ∷ []) other → IsDeadline feed days other its → IsNoLater Never its
+    least other Never c d = tt
+    least other (At m) c d = absurd (first_free d.0.0 (subst (λ r. HasBooking feed r d.0.0) (only_contained first_ride other c) d.0.1))
+
+found : AreFound feed times days (query 60) 1 (label ∷ [])
+found = record {
+  attained = All-one (IsAttained feed times days (query 60) 1) label (first_ride ∷ [], refl, reaches);
+  apart = record { apart = λ i j a b e f same covers. let first = only_index label i a e in let second = only_index label j b f in omega arith };
+  rising = AllPairs-cons IsLabelBefore label [] (All-nil (IsLabelBefore label)) (AllPairs-nil IsLabelBefore);
+}
+
+-- a label and one of its place that arrives later with the same deadline aren't apart
+not_apart : AreApart (label ∷ (record label { arrival = pos 1749025260 }) ∷ []) → ⊥
+not_apart a = let same = a.apart 0 1 label (record label { arrival = pos 1749025260 }) refl refl refl (record { deadline = tt; arrival = omega (arith, ints); walk = lit≤ tt }) in omega (arith, same)
+
+-- a label may stand at the destination, and at no other point
+at_destination : IsLabelPlace feed (query 60) (place.Point 0)
+at_destination = refl
+
+at_no_other_point : IsLabelPlace feed (query 60) (place.Point 1) → ⊥
+at_no_other_point e = cc
+
+-- a second too late for its record's time, the first ride has a wrong departure, and no flaw before it
+abbrev late_ride : Ride
+late_ride = record first_ride { departs = pos 1749024001 }
+
+here : IsBetween feed late_ride first_trip (row 1 0 28800) (row 2 1 30000)
+here = record { of_trip = refl; at_boarding = refl; at_alighting = refl; in_order = lit< tt }
+
+departs_wrongly : IsFirstFlaw feed times days late_ride WrongDeparture
+departs_wrongly = record { fails = fails; first = earlier }
+  where
+    fails : Passes feed times days late_ride WrongDeparture → ⊥
+    fails p =
+        let leaves = of_records feed late_ride (λ trip boarding alighting. Leaves days late_ride (shift trip late_ride.start) boarding.timing) first_trip (row 1 0 28800) (row 2 1 30000) here p in
+        let scheduled = IsMoment_unique days (pos 20243) 28800 leaves.0 (pos 1749024000) leaves.1 (moment 28800) in
+        let departs : pos 1749024001 ≡ leaves.0 +ℤ pos 0 = leaves.2 in
+        omega (arith, ints)
+
+    earlier : (flaw : RideFlaw) → test_number flaw < 7 → Passes feed times days late_ride flaw
+    earlier NoTrip lt = (first_trip, refl, tt)
+    earlier NoRow lt = (first_trip, row 1 0 28800, row 2 1 30000, here, tt)
+    earlier NoDay lt = travels
+    earlier NotActive lt = (first_trip, refl, (weekdays, refl, refl))
+    earlier Frequent lt = (first_trip, refl, refl)
+    earlier NotBoarded lt = (first_trip, row 1 0 28800, row 2 1 30000, here, (refl, is_free))
+    earlier NotAlighted lt = (first_trip, row 1 0 28800, row 2 1 30000, here, (refl, is_free))
+    earlier WrongDeparture lt = absurd (omega arith)
+    earlier NoDirect lt = absurd (omega arith)
+    earlier WrongArrival lt = absurd (omega arith)
+
+-- but it is not the trip that is amiss
+not_its_trip : IsFirstFlaw feed times days late_ride NoTrip → ⊥
+not_its_trip f = f.fails (first_trip, refl, tt)
+
+-- within 59 minutes both rides together are too late
+through : (horizon : ℕ) → IsThrough feed times days (query horizon) rides second_ride
+through horizon = record { is_last = refl; all = record { few = lit≤ tt; each = each } }
+  where
+    each : (j : ℕ) (ride : Ride) → j < 2 → slice_get rides j ≡ Some ride → PassesAt feed times days (query horizon) rides j ride
+    each zero ride lt e =
+        subst (PassesAt feed times days (query horizon) rides 0) (same_Some first_ride ride e)
+        (record { permitted = (first_usable horizon).permitted; bookable = (first_usable horizon).bookable; in_time = (0, from_origin, omega (arith, ints)) })
+    each (suc zero) ride lt e =
+        subst (PassesAt feed times days (query horizon) rides 1) (same_Some second_ride ride e)
+        (record { permitted = (second_usable horizon).permitted; bookable = (second_usable horizon).bookable; in_time = (first_ride, refl, (300, by_rule, omega (arith, ints))) })
+    each (suc (suc j)) ride lt e = absurd (omega arith)
+
+ends_late : IsFirstJourneyFlaw feed times days (query 59) rides journey_flaw.TooLate
+ends_late = (second_ride, 1200, through 59, on_foot, late)
+  where
+    late : EndsInTime times (query 59) second_ride → ⊥
+    late ends =
+        let seconds = on_foot_only ends.0 ends.1 in
+        let by : (pos 1749026400 +ℤ pos ends.0) ≤ℤ limit (query 59) = ends.2 in
+        omega (arith, ints, seconds)
+
+-- within an hour they aren't
+ends_in_time : IsFirstJourneyFlaw feed times days (query 60) rides journey_flaw.TooLate → ⊥
+ends_in_time f = journeys_flawed feed times days (query 60) rides journey_flaw.TooLate f journey

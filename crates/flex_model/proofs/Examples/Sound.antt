@@ -1,0 +1,147 @@
+-- Values that are not sound, each by one condition.
+use Rattle.std.proofs.Common.{◌≡◌, ◌^◌, ◌*◌, inl, inr, ◌+◌, ◌≤◌, pos, negsuc, ◌+ℤ◌, true, [], ◌∷◌, None, refl, sym, lit≤, lit<, arith}
+use Rattle.std.specs.Prelude.{codes}
+use Rattle.std.proofs.lemmas.Bool.{false≢true}
+use Rattle.std.proofs.lemmas.Int.{ints}
+use Rattle.flex_model.specs.declared.booking.Notice.TheVariants.{Ahead, Days}
+use Rattle.flex_model.specs.declared.booking.SameDay.TheVariants.{Always, Greatest}
+use Rattle.flex_model.specs.declared.change.ChangeKind.TheVariants.{Least, Forbidden}
+use Rattle.flex_model.specs.declared.place.Place.TheVariants as place
+use Rattle.flex_model.specs.declared.trip.Spot.TheVariants as spot
+use Rattle.flex_model.specs.declared.trip.Timing.TheVariants.{Times, Window}
+use Rattle.flex_model.specs.SoundFeed.{DoesNotFall, IsChangeBefore, IsSoundFeed, IsSoundKind, IsSoundNotice, IsSoundPolygon, IsSoundRepeat, IsSoundSpot, IsSoundTrip, IsSoundTiming}
+use Rattle.flex_model.specs.SoundTimes.{AreIds, AreSoundTimes, IsOnGlobe}
+use Rattle.flex_model.specs.SoundQuery.{IsDayTableOf, IsQueryMoment, IsQueryPlace, IsSoundDayTable, IsSoundQuery}
+use Rattle.flex_model.specs.Times.{IsSpanBefore}
+use Rattle.flex_model.proofs.Examples.Dale as dale
+use Rattle.flex_model.proofs.Found.{All-at}
+
+-- 180 degrees east are on the globe, and a little more aren't
+easternmost : IsOnGlobe (record { lon = pos (180 * 10 ^ 15); lat = pos 0 })
+easternmost = record { lon = lit≤ tt; lat = lit≤ tt }
+
+too_far_east : IsOnGlobe (record { lon = pos (180 * 10 ^ 15 + 1); lat = pos 0 }) → ⊥
+too_far_east g = let h = g.lon in omega arith
+
+too_far_south : IsOnGlobe (record { lon = pos 0; lat = negsuc (90 * 10 ^ 15) }) → ⊥
+too_far_south g = let h = g.lat in omega arith
+
+-- a polygon has a ring
+no_ring : IsSoundPolygon (record { rings = [] }) → ⊥
+no_ring p = p.exterior refl
+
+-- a window may be of one moment
+moment_window : IsSoundTiming (spot.Zone 0) (Window 28800 28800)
+moment_window = (lit≤ tt, lit< tt)
+
+ends_first : IsSoundTiming (spot.Zone 0) (Window 28801 28800) → ⊥
+ends_first t = let h = t.0 in omega arith
+
+-- times under 168 hours
+last_time : IsSoundTiming (spot.Stop 0) (Times 604799 604799)
+last_time = ((0, refl), lit≤ tt, lit< tt)
+
+too_late : IsSoundTiming (spot.Stop 0) (Times 604799 604800) → ⊥
+too_late t = let h = t.2 in omega arith
+
+leaves_first : IsSoundTiming (spot.Stop 0) (Times 28801 28800) → ⊥
+leaves_first t = let h = t.1 in omega arith
+
+-- a record with times names a stop
+times_in_zone : IsSoundTiming (spot.Zone 0) (Times 28800 28800) → ⊥
+times_in_zone t = let e = t.0.1 in cc
+
+-- times may stand still along a trip, and don't fall
+stands_still : DoesNotFall (Times 28800 28860) (Times 28860 28860)
+stands_still = lit≤ tt
+
+falls : DoesNotFall (Times 28800 28860) (Times 28859 28860) → ⊥
+falls h = omega arith
+
+-- the feed has one zone
+no_such_zone : IsSoundSpot (dale.feed 36000) (spot.Zone 1) → ⊥
+no_such_zone h = omega arith
+
+longest_notice : IsSoundNotice (dale.feed 36000) (Ahead 1000000 (Greatest 1000000))
+longest_notice = (lit≤ tt, lit≤ tt)
+
+too_long_notice : IsSoundNotice (dale.feed 36000) (Ahead 1000001 Always) → ⊥
+too_long_notice h = let le = h.0 in omega arith
+
+too_many_days : IsSoundNotice (dale.feed 36000) (Days (record { days = 1001; time = 0 }) None None) → ⊥
+too_many_days h = let le = h.0.days in omega arith
+
+-- a repeat has a start before its end
+one_start : IsSoundRepeat (record { first = 28800; end = 28801; headway = 86400 })
+one_start = record { in_order = lit< tt; end = lit< tt; some_headway = lit< tt; headway = lit≤ tt }
+
+no_start : IsSoundRepeat (record { first = 28800; end = 28800; headway = 600 }) → ⊥
+no_start r = let lt = r.in_order in omega arith
+
+no_headway : IsSoundRepeat (record { first = 28800; end = 30000; headway = 0 }) → ⊥
+no_headway r = let lt = r.some_headway in omega arith
+
+-- a trip that frequencies.txt names has a repeat
+unrepeated : IsSoundTrip (dale.feed 36000) (record (dale.trip 36000) { frequent = true }) → ⊥
+unrepeated t = false≢true (sym (t.frequent.1 refl))
+
+too_slow : IsSoundKind (Least 86401) → ⊥
+too_slow h = omega arith
+
+-- changes rise by where they begin, and then by where they end
+from_first : IsChangeBefore (record { from = 0; to = 9; kind = Forbidden }) (record { from = 1; to = 0; kind = Least 60 })
+from_first = inl (lit< tt)
+
+same_pair : IsChangeBefore (record { from = 1; to = 2; kind = Forbidden }) (record { from = 1; to = 2; kind = Least 60 }) → ⊥
+same_pair (inl lt) = omega arith
+same_pair (inr both) = let lt = both.1 in omega arith
+
+-- an id stands once, and isn't empty
+twice : AreIds (codes "M" ∷ codes "M" ∷ []) → ⊥
+twice ids = ids.distinct 0 1 [] (lit< tt) (lit< tt) refl
+
+empty_id : AreIds ([] ∷ []) → ⊥
+empty_id ids = All-at (λ id. id ≡ [] → ⊥) ([] ∷ []) 0 [] ids.given refl refl
+
+-- a feed whose stop has no id
+unnamed : IsSoundFeed (record (dale.feed 36000) { stops = dale.stop [] (dale.at 502 5000) ∷ [] }) → ⊥
+unnamed f = empty_id f.stops.ids
+
+-- a direct time of more than a week
+too_far : AreSoundTimes (dale.feed 36000) (dale.times 604801) → ⊥
+too_far t = let le = All-at (λ s. s.seconds ≤ 604800) (dale.times 604801).direct 0 _ t.direct.seconds refl in omega arith
+
+-- spans rise by where they begin, and then by where they end: stops come before points
+stop_first : IsSpanBefore (record { from = place.Stop 9; to = place.Point 9; seconds = 60 }) (record { from = place.Point 0; to = place.Stop 0; seconds = 60 })
+stop_first = inl tt
+
+span_again : IsSpanBefore (record { from = place.Stop 1; to = place.Stop 2; seconds = 60 }) (record { from = place.Stop 1; to = place.Stop 2; seconds = 90 }) → ⊥
+span_again (inl lt) = omega arith
+span_again (inr both) = let lt = both.1 in omega arith
+
+-- a table with one day
+too_short : IsSoundDayTable (record { first = pos 20243; base = pos 1748995200 ∷ [] }) → ⊥
+too_short d = let e = d.count in omega arith
+
+before_1970 : IsSoundDayTable (record dale.days { first = negsuc 0 }) → ⊥
+before_1970 d = let le = d.low in omega (arith, ints)
+
+-- the table of the query that departs on 4 June 2025 isn't that of one a day later
+next_day : IsDayTableOf (record dale.query { depart = pos 1749108600 }) dale.days → ⊥
+next_day e = let f : pos 18723 +ℤ pos 1520 ≡ pos 20244 = e in omega (arith, ints)
+
+-- the last second of 2199 and the one after it
+last_second : IsQueryMoment (pos 7258118399)
+last_second = record { low = omega (arith, ints); high = omega (arith, ints) }
+
+in_2200 : IsQueryMoment (pos 7258118400) → ⊥
+in_2200 m = let le = m.high in omega (arith, ints)
+
+no_such_point : IsQueryPlace (dale.feed 36000) (dale.times 600) (place.Point 1) → ⊥
+no_such_point h = omega arith
+
+eight_transfers : IsSoundQuery (dale.feed 36000) (dale.times 600) (record dale.query { transfers = 8 }) → ⊥
+eight_transfers q = let le = q.transfers in omega arith
+
+no_horizon : IsSoundQuery (dale.feed 36000) (dale.times 600) (record dale.query { horizon = 0 }) → ⊥
+no_horizon q = let lt = q.some_time in omega arith
