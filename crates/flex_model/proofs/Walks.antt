@@ -1,10 +1,9 @@
 -- How long walks are, and that they are nothing for a query that doesn't ask for walking.
-use Rattle.std.proofs.Common.{◌≡◌, inl, inr, Bool, true, false, ℕ, zero, suc, ◌+◌, ◌-◌, ◌*◌, ◌<◌, ◌≤◌, ◌==◌, if◌then◌else◌, List, Contains, Some, length, slice_get, refl, ◌∙◌, arith}
+use Rattle.std.proofs.Common.{◌≡◌, inl, inr, Bool, true, false, ℕ, zero, suc, ◌+◌, ◌-◌, ◌*◌, ◌≤◌, ◌==◌, if◌then◌else◌, List, length, refl, ◌∙◌, arith}
 use Rattle.std.proofs.lemmas.Option.{slice_get_within}
 use Rattle.flex_model.specs.declared.change.ChangeKind.TheVariants.{Least}
 use Rattle.flex_model.specs.declared.change.ChangeRow.{ChangeRow}
 use Rattle.flex_model.specs.declared.feed.Feed.{Feed}
-use Rattle.flex_model.specs.declared.moment.DayTable.{DayTable}
 use Rattle.flex_model.specs.declared.place.Place.{Place}
 use Rattle.flex_model.specs.declared.place.Place.TheVariants.{Stop, Point}
 use Rattle.flex_model.specs.declared.query.Query.{Query}
@@ -55,10 +54,10 @@ not_asked feed times query rides (suc k) walk asks w =
 pub uncounted_nothing : UncountedWalksAreNothing
 uncounted_nothing feed times days query rides asks = (
   λ triple attains.
-  let before = not_asked feed times query rides (length rides - 1) attains.walked asks attains.walks in
-  let after = if_not query.walking attains.journey.seconds asks in
-  let e : triple.walk ≡ attains.walked + counted query attains.journey.seconds = attains.walk in
-  omega arith,
+      let before = not_asked feed times query rides (length rides - 1) attains.walked asks attains.walks in
+      let after = if_not query.walking attains.journey.seconds asks in
+      let e : triple.walk ≡ attains.walked + counted query attains.journey.seconds = attains.walk in
+      omega arith,
   λ place pair reaches. not_asked feed times query rides (length rides - 1) pair.walk asks reaches.walks,
 )
 
@@ -105,17 +104,17 @@ walks_short feed times query rides (suc k) walk sound sound_times w =
 pub short_walks : WalksAreShort
 short_walks feed times days query sound sound_times = (
   λ rides triple attains.
-  let some = slice_get_within rides 0 attains.journey.itinerary.first attains.journey.itinerary.is_first in
-  let before = walks_short feed times query rides (length rides - 1) attains.walked sound sound_times attains.walks in
-  let short = egress_short feed times query attains.journey.last.alight attains.journey.seconds sound_times attains.journey.egress in
-  let no_more = if_no_more query.walking attains.journey.seconds in
-  let e : triple.walk ≡ attains.walked + counted query attains.journey.seconds = attains.walk in
-  within_counted query.walking triple.walk (86400 * (length rides + 1)) (omega arith) (λ asks. (uncounted_nothing feed times days query rides asks).0 triple attains),
+      let some = slice_get_within rides 0 attains.journey.itinerary.first attains.journey.itinerary.is_first in
+      let before = walks_short feed times query rides (length rides - 1) attains.walked sound sound_times attains.walks in
+      let short = egress_short feed times query attains.journey.last.alight attains.journey.seconds sound_times attains.journey.egress in
+      let no_more = if_no_more query.walking attains.journey.seconds in
+      let e : triple.walk ≡ attains.walked + counted query attains.journey.seconds = attains.walk in
+      within_counted query.walking triple.walk (86400 * (length rides + 1)) (omega arith) (λ asks. (uncounted_nothing feed times days query rides asks).0 triple attains),
   λ k label attained.
-  let rides : List Ride = attained.0 in
-  let count : length rides ≡ k = attained.1 in
-  let reaches = attained.2 in
-  let some = slice_get_within rides 0 reaches.journey.itinerary.first reaches.journey.itinerary.is_first in
-  let before = walks_short feed times query rides (length rides - 1) label.walk sound sound_times reaches.walks in
-  within_counted query.walking label.walk (86400 * k) (omega arith) (λ asks. (uncounted_nothing feed times days query rides asks).1 label.place _ reaches),
+      let rides : List Ride = attained.0 in
+      let count : length rides ≡ k = attained.1 in
+      let reaches = attained.2 in
+      let some = slice_get_within rides 0 reaches.journey.itinerary.first reaches.journey.itinerary.is_first in
+      let before = walks_short feed times query rides (length rides - 1) label.walk sound sound_times reaches.walks in
+      within_counted query.walking label.walk (86400 * k) (omega arith) (λ asks. (uncounted_nothing feed times days query rides asks).1 label.place _ reaches),
 )
