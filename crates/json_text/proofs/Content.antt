@@ -1,12 +1,11 @@
 -- What a scanned text tells of its nodes.
-use Rattle.std.proofs.Common.{◌≡◌, ◌≢◌, ℕ, zero, suc, List, [], ◌∷◌, ◌++◌, Option, Some, None, ◌⊎◌, inl, inr, refl, arith, ◌+◌, ◌-◌, ◌≤◌, ◌<◌, length, map, get_or, slice_get, slice_range, unwrap_or}
+use Rattle.std.proofs.Common.{◌≡◌, ◌≢◌, ℕ, suc, List, [], ◌∷◌, Option, Some, None, inl, inr, refl, arith, ◌+◌, ◌-◌, ◌≤◌, ◌<◌, length, map, get_or, slice_get, slice_range}
 use Rattle.std.proofs.lemmas.Option.{slice_get-get_or, slice_get_within}
-use Rattle.json_text.specs.Content.{AreRowsOf, AreCopied, HasFigures, HasName, HasString, HasText, IsContent, text_or}
+use Rattle.json_text.specs.Content.{AreRowsOf, HasFigures, HasName, HasString, HasText, text_or}
 use Rattle.json_text.specs.Grammar.{IsJsonWithin, text_bytes, number_bytes, value_bytes}
-use Rattle.json_text.specs.Node.{Node, MemberNode, IsNode, HasNode, HasArray, HasObject, HasWord, HasNumber, IsFirstNamed, array_items, object_members, kind_of, node_count, text_nodes, value_nodes, string_text, number_text}
-use Rattle.json_text.specs.Placed.{IsPart, IsPlaced, IsQuoted, StandsAt}
+use Rattle.json_text.specs.Node.{Node, MemberNode, IsNode, HasNode, HasArray, HasObject, HasWord, HasNumber, IsFirstNamed, array_items, object_members, kind_of, text_nodes, value_nodes, string_text}
+use Rattle.json_text.specs.Placed.{IsPlaced, IsQuoted, StandsAt}
 use Rattle.json_text.specs.Progress.{shape_of}
-use Rattle.json_text.specs.Shapes.{shape}
 use Rattle.json_text.specs.Syntax.{Mark, Number, Value, literal, number, string, array, object, Items, Members, Text}
 use Rattle.json_text.specs.Unescaping.{ReadsAs}
 use Rattle.json_text.specs.Walk.{next_of, walk, Rises, HasNameAt, AreMembers}

@@ -1,15 +1,15 @@
 -- What the rows of a text tell of its nodes.
 use Rattle.std.proofs.Common.{◌≡◌, ℕ, zero, suc, Bool, true, false, List, [], ◌∷◌, ◌++◌, Option, Some, None, refl, arith, ◌+◌, ◌-◌, ◌≤◌, ◌<◌, length, map, get_or, slice_get, length-append, nat_lt}
-use Rattle.std.proofs.lemmas.Option.{slice_get-map, slice_get_read, slice_get_within, slice_get-get_or}
+use Rattle.std.proofs.lemmas.Option.{slice_get-map}
 use Rattle.std.specs.Option.{option_map}
 use Rattle.json_text.specs.Content.{AreRowsOf, AreCopied, HasName, HasString, HasText}
-use Rattle.json_text.specs.Grammar.{mark_bytes, value_bytes, text_bytes}
-use Rattle.json_text.specs.Node.{Node, IsNode, HasNode, kind_of, node_count, value_length, value_nodes, text_nodes}
-use Rattle.json_text.specs.Placed.{IsPart, IsPlaced, IsNamed, IsQuoted, StandsAt}
+use Rattle.json_text.specs.Grammar.{value_bytes, text_bytes}
+use Rattle.json_text.specs.Node.{Node, kind_of, value_length, text_nodes}
+use Rattle.json_text.specs.Placed.{IsPart, IsPlaced, IsNamed, StandsAt}
 use Rattle.json_text.specs.Progress.{shape_of}
 use Rattle.json_text.specs.Recording.{Shape}
 use Rattle.json_text.specs.Shapes.{shape, value_shapes, items_shapes, members_shapes, text_shapes}
-use Rattle.json_text.specs.Syntax.{Mark, null_literal, true_literal, false_literal, Value, literal, number, string, array, object, Text}
+use Rattle.json_text.specs.Syntax.{null_literal, true_literal, false_literal, Value, literal, number, string, array, object, Text}
 use Rattle.json_text.specs.declared.kind.JsonKind.{JsonKind}
 use Rattle.json_text.specs.declared.kind.JsonKind.TheVariants as Kind
 use Rattle.json_text.specs.declared.row.Row.{Row}

@@ -1,7 +1,7 @@
 -- What a node's kind tells, and which nodes an array's items and an object's members are: for callers.
-use Rattle.std.proofs.Common.{◌≡◌, ℕ, List, [], ◌∷◌, Option, None, Some, ◌⊎◌, inl, inr, Bool, true, false, refl, arith}
-use Rattle.json_text.specs.Grammar.{IsJsonWithin, text_bytes}
-use Rattle.json_text.specs.Node.{Node, NumberedNode, MemberNode, IsNode, HasNode, HasArray, HasNumber, HasObject, HasWord, AreNodes, IsFirstNamed, kind_of, member_values, object_members}
+use Rattle.std.proofs.Common.{◌≡◌, ℕ, List, [], ◌∷◌, Some, inl, inr, Bool, true, false, arith}
+use Rattle.json_text.specs.Grammar.{IsJsonWithin}
+use Rattle.json_text.specs.Node.{Node, MemberNode, IsNode, HasNode, HasArray, HasNumber, HasObject, HasWord, AreNodes, IsFirstNamed, kind_of, member_values, object_members}
 use Rattle.json_text.specs.Syntax.{null_literal, true_literal, false_literal, Value, literal, number, string, array, object, Members}
 use Rattle.json_text.specs.declared.kind.JsonKind.{JsonKind}
 use Rattle.json_text.specs.declared.kind.JsonKind.TheVariants as Kind

@@ -21,4 +21,5 @@ mod Recorded
 mod Rows
 mod Settled
 mod Steps
+mod Unambiguous
 mod Walks

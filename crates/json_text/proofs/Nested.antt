@@ -1,18 +1,18 @@
 -- What is noted of a text's bytes are the shapes of its values.
-use Rattle.std.proofs.Common.{◌≡◌, ℕ, zero, suc, Bool, true, false, cond, ◌||◌, ◌==◌, List, [], ◌∷◌, ◌++◌, refl, arith, ◌+◌, ◌-◌, ◌≤◌, length, append_assoc, length-append}
+use Rattle.std.proofs.Common.{◌≡◌, ℕ, suc, Bool, true, false, ◌||◌, ◌==◌, List, [], ◌∷◌, ◌++◌, refl, arith, ◌+◌, ◌-◌, length, append_assoc, length-append}
 use Rattle.json_text.specs.Byte.{is_white, is_first_digit}
-use Rattle.json_text.specs.Syntax.{White, Whole, nought, positive, Number, Mark, Literal, null_literal, true_literal, false_literal, Value, literal, number, string, array, object, Items, no_items, items, MoreItems, last_item, next_item, Members, no_members, members, MoreMembers, last_member, next_member, Text}
+use Rattle.json_text.specs.Syntax.{White, Whole, nought, positive, Mark, null_literal, true_literal, false_literal, Value, literal, number, string, array, object, Items, no_items, items, MoreItems, last_item, next_item, Members, no_members, members, MoreMembers, last_member, next_member, Text}
 use Rattle.json_text.specs.Grammar.{white_bytes, minus_bytes, whole_bytes, mark_bytes, number_bytes, value_bytes, items_bytes, more_items_bytes, members_bytes, more_members_bytes, text_bytes}
 use Rattle.json_text.specs.Machine as Machine
 use Rattle.json_text.specs.Machine.{State, Frame, step}
-use Rattle.json_text.specs.Node.{node_count, value_length, name_length, value_place, kind_of}
-use Rattle.json_text.specs.Recording.{Shape, Notes, recorded, noted, begin_value, end_value, enter, close, change, no_notes}
+use Rattle.json_text.specs.Node.{node_count, value_length, value_place}
+use Rattle.json_text.specs.Recording.{Shape, Notes, recorded, begin_value, end_value, enter, close, change, no_notes}
 use Rattle.json_text.specs.Shapes.{shape, value_shapes, items_shapes, more_items_shapes, members_shapes, more_members_shapes, text_shapes}
 use Rattle.json_text.specs.declared.kind.JsonKind.{JsonKind}
 use Rattle.json_text.specs.declared.kind.JsonKind.TheVariants as Kind
-use Rattle.json_text.proofs.Lengths.{value_splits, marks_split, number_splits, more_items_split, more_members_split, items_split, members_split, long, white_long, count_value, count_items, count_members, count_more_items, count_more_members}
+use Rattle.json_text.proofs.Lengths.{value_splits, marks_split, number_splits, long, white_long, count_value, count_items, count_members}
 use Rattle.json_text.proofs.Recorded.{Follows, follows_white, here, skip, before_value_skips, after_open_array_skips, after_open_object_skips, before_name_skips, after_name_skips, after_value_skips, name_recorded, string_recorded, number_recorded}
-use mathlib.Core.Path.{subst, ap, sym, ◌∙◌}
+use mathlib.Core.Path.{ap, ◌∙◌}
 
 abbrev pub notes : List Shape → List ℕ → ℕ → ℕ → Notes
 notes shapes opened from to = record { shapes = shapes; opened = opened; name_from = from; name_to = to }

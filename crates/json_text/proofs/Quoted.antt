@@ -9,7 +9,6 @@ use Rattle.json_text.specs.Grammar.{digit_bytes, exponent_bytes, fraction_bytes,
 use Rattle.json_text.specs.Node.{number_text}
 use Rattle.json_text.specs.Placed.{IsQuoted, StandsAt}
 use Rattle.json_text.specs.Syntax.{Digit, Digits, Exponent, ExponentLetter, lower, upper, Mark, plain, escape, unit, Number, Sign, unsigned, plus, minus, Whole, nought, positive}
-use Rattle.json_text.specs.Unescaping.{HasMarks}
 use Rattle.json_text.proofs.Lengths.{marks_split, number_splits}
 use mathlib.Core.Path.{subst, ap, sym, ◌∙◌}
 

@@ -1,10 +1,10 @@
 -- A step is what is settled before the byte, and then the byte itself.
-use Rattle.std.proofs.Common.{◌≡◌, ℕ, zero, suc, Bool, true, false, cond, ◌||◌, ◌==◌, List, [], ◌∷◌, refl, arith, ◌≤◌, ◌+◌, length, map, reverse, Result, Ok, Err, OnOk, IfErr, eqb-true}
+use Rattle.std.proofs.Common.{◌≡◌, ℕ, suc, Bool, true, false, cond, ◌||◌, ◌==◌, List, ◌∷◌, refl, arith, ◌≤◌, length, reverse, Result, Ok, Err, OnOk, IfErr, eqb-true}
 use Rattle.json_text.specs.Byte.{is_white, is_digit, is_exponent}
 use Rattle.json_text.specs.Machine as Machine
 use Rattle.json_text.specs.Machine.{State, Frame, step, stack_of, open_value, close_value, is_fault}
-use Rattle.json_text.specs.Recording.{Notes, settled, settled_notes, moved, moved_notes, noted}
-use Rattle.json_text.specs.Moves.{state_of, state_after, notes_after, IsMove}
+use Rattle.json_text.specs.Recording.{settled, settled_notes, moved, moved_notes}
+use Rattle.json_text.specs.Moves.{state_of, state_after, IsMove}
 use Rattle.json_text.specs.Progress.{machine_of, notes_of, stack_in, IsMoved, HasRead, IsRefused}
 use Rattle.json_text.specs.declared.moves.Move.{Move}
 use Rattle.json_text.specs.declared.scanner.Scanner.{Scanner}

@@ -1,5 +1,5 @@
 -- What is kept of a text.
-use Rattle.std.specs.Prelude.{◌≡◌, ℕ, suc, ◌+◌, ◌-◌, ◌<◌, List, [], length, map, Option, None, Some, get_or, slice_get, unwrap_or}
+use Rattle.std.specs.Prelude.{◌≡◌, ℕ, ◌+◌, ◌-◌, ◌<◌, List, [], length, map, Option, None, Some, get_or, slice_get, unwrap_or}
 use Rattle.std.specs.List.{slice_range}
 use Rattle.json_text.specs.Grammar.{IsJsonWithin, number_bytes, text_bytes}
 use Rattle.json_text.specs.Placed.{IsQuoted, StandsAt}

@@ -1,12 +1,11 @@
 -- How the scanner's values stand for the machine's.
-use Rattle.std.specs.Prelude.{◌≡◌, ℕ, suc, ◌≤◌, ◌<◌, List, [], ◌∷◌, length, map, reverse, Option, Some, None, Bool, true, false}
+use Rattle.std.specs.Prelude.{◌≡◌, ℕ, suc, List, [], ◌∷◌, Option, Some, None}
 use Rattle.json_text.specs.Machine
 use Rattle.json_text.specs.Machine.{Frame, in_array, in_object, after_open_array, after_value, after_name, in_string, as_name, fault, is_fault, stack_of, step}
 use Rattle.json_text.specs.Recording.{Notes, begin_value, end_value, begin_name, end_name, enter, close, moved, moved_notes, settled, settled_notes}
 use Rattle.json_text.specs.declared.state.State.{State}
 use Rattle.json_text.specs.declared.state.State.TheVariants.{BeforeValue, AfterOpenList, AfterOpenObject, BeforeName, AfterName, AfterValue, InString, AfterBackslash, InUnit, InLiteral, AfterMinus, AfterNought, InWhole, AfterPoint, InFraction, AfterExponent, AfterSign, InPower}
 use Rattle.json_text.specs.declared.state.Role.{Role}
-use Rattle.json_text.specs.declared.state.Role.TheVariants as Role
 use Rattle.json_text.specs.declared.state.Spelling.{Spelling}
 use Rattle.json_text.specs.declared.state.Spelling.TheVariants.{Ull, Ll, L, Rue, Ue, E, Alse, Lse, Se}
 use Rattle.json_text.specs.declared.state.Bracket.{Bracket}

@@ -1,5 +1,5 @@
 -- How far the scanner has come.
-use Rattle.std.specs.Prelude.{◌≡◌, ℕ, suc, ◌+◌, ◌≤◌, ◌<◌, List, length, map, reverse, true, false}
+use Rattle.std.specs.Prelude.{◌≡◌, ℕ, ◌+◌, ◌≤◌, ◌<◌, List, length, map, reverse, true, false}
 use Rattle.json_text.specs.Machine
 use Rattle.json_text.specs.Machine.{is_fault, stack_of, step}
 use Rattle.json_text.specs.Moves.{frame_of, state_of, state_after, notes_after}

@@ -1,5 +1,5 @@
 -- What the scanner keeps of the beginning of a text, byte by byte: the nodes so far, and what is open.
-use Rattle.std.specs.Prelude.{ℕ, zero, suc, ◌+◌, ◌-◌, List, [], ◌∷◌, ◌++◌, length, Bool, cond, ◌==◌, ◌||◌}
+use Rattle.std.specs.Prelude.{ℕ, zero, suc, ◌-◌, List, [], ◌∷◌, ◌++◌, length, cond, ◌==◌, ◌||◌}
 use Rattle.json_text.specs.Byte.{is_white, is_digit, is_first_digit, is_exponent, is_plain}
 use Rattle.json_text.specs.Machine
 use Rattle.json_text.specs.Machine.{Frame, in_array, in_object, as_value, as_name, step, before_value, after_open_array, after_open_object, before_name, after_name, after_value, in_string, after_backslash, in_unit, in_literal, after_minus, after_nought, in_whole, after_point, in_fraction, after_exponent, after_sign, in_power, fault}

@@ -1,5 +1,5 @@
 -- Reading the escapes of a string, whose bytes stand between its quotation marks.
-use Rattle.std.specs.Prelude.{◌≡◌, ℕ, suc, false, true, ◌+◌, ◌*◌, ◌≤◌, ◌<◌, List, [], ◌∷◌, ◌++◌, drop, length, slice_index}
+use Rattle.std.specs.Prelude.{◌≡◌, ℕ, false, true, ◌+◌, ◌*◌, ◌≤◌, List, [], ◌∷◌, ◌++◌, drop, length, slice_index}
 use Rattle.std.specs.Str.{IsCharBoundary}
 use Rattle.json_text.specs.Grammar.{mark_bytes}
 use Rattle.json_text.specs.Node.{hex_value, is_low, string_text}

@@ -1,5 +1,5 @@
 -- Going from node to node over the rows of a text.
-use Rattle.std.specs.Prelude.{◌≡◌, ℕ, zero, suc, ◌-◌, ◌<◌, ◌≤◌, List, [], ◌∷◌, length, Option, Some, None, cond, nat_lt, slice_get}
+use Rattle.std.specs.Prelude.{◌≡◌, ℕ, zero, suc, ◌-◌, ◌<◌, List, [], ◌∷◌, length, Some, cond, nat_lt, slice_get}
 use Rattle.json_text.specs.Node.{MemberNode, string_text}
 use Rattle.json_text.specs.Placed.{IsQuoted}
 use Rattle.json_text.specs.Syntax.{Mark}

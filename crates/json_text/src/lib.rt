@@ -24,5 +24,6 @@ pub use kind::JsonKind;
 pub use laws::{
     depth_is_found, fault_is_found, items_are_nodes, machine_accepts_the_grammar,
     machine_accepts_within, members_are_nodes, prefix_is_alive, stack_is_the_depth,
+    texts_are_unambiguous,
 };
 pub use refusal::ScanRefusal;
