@@ -6,7 +6,7 @@ use Rattle.std.proofs.lemmas.Str.{encode_ascii, IsCharBoundary-start, IsCharBoun
 use Rattle.std.specs.Str.{IsCharBoundary, IsUtf8}
 use Rattle.json_text.specs.Byte.{is_plain, is_escape, is_hex_digit}
 use Rattle.json_text.specs.Grammar.{mark_bytes}
-use Rattle.json_text.specs.Node.{string_text, text_after_unit, unit_value, hex_value, escaped_byte, is_high, is_low, alone, paired}
+use Rattle.json_text.specs.StringText.{string_text, text_after_unit, unit_value, hex_value, escaped_byte, is_high, is_low, alone, paired}
 use Rattle.json_text.specs.Syntax.{HexDigit, Mark, plain, escape, unit}
 use Rattle.json_text.specs.Unescaping.{HasMarks, ReadsAs, Passes, unit_at, IsLowAt, LacksLow, IsUnescaping}
 use mathlib.Core.Path.{subst, ap, sym, ◌∙◌}

@@ -160,20 +160,20 @@ mutual
       number_recorded x.negative x.whole x.fraction x.exponent stack rest f n place (place + value_length (number x)) (omega (arith, long (number_bytes x) (number_splits x) rest))
       ∙ ap (λ m. recorded (Machine.after_value stack) m (place + value_length (number x)) rest) (ended Kind.Number n place (place + value_length (number x)) (length n.shapes + 1) (omega arith))
   value_recorded (string marks) stack n place rest f =
-      string_recorded marks stack (begin_value Kind.Word place n) (suc place) (place + value_length (string marks)) rest (omega arith)
-      ∙ ap (λ m. recorded (Machine.after_value stack) m (place + value_length (string marks)) rest) (ended Kind.Word n place (place + value_length (string marks)) (length n.shapes + 1) (omega arith))
+      string_recorded marks stack (begin_value Kind.String place n) (suc place) (place + value_length (string marks)) rest (omega arith)
+      ∙ ap (λ m. recorded (Machine.after_value stack) m (place + value_length (string marks)) rest) (ended Kind.String n place (place + value_length (string marks)) (length n.shapes + 1) (omega arith))
   value_recorded (array between) stack n place rest f = items_recorded between stack n place rest
   value_recorded (object between) stack n place rest f = members_recorded between stack n place rest
 
   items_recorded : (between : Items) (stack : List Frame) (n : Notes) (place : ℕ) (rest : List ℕ)
-      → recorded (Machine.after_open_array stack) (begin_value Kind.List place n) (suc place) (items_bytes between rest)
+      → recorded (Machine.after_open_array stack) (begin_value Kind.Array place n) (suc place) (items_bytes between rest)
       ≡ recorded (Machine.after_value stack) (with_value (array between) place n) (place + value_length (array between)) rest
   items_recorded (no_items whites) stack n place rest =
-      skip (Machine.after_open_array stack) (after_open_array_skips stack) whites (begin_value Kind.List place n) (suc place) (93 ∷ rest)
-      ∙ ap (λ next. recorded (Machine.after_value stack) (notes (n.shapes ++ (record { kind = Kind.List; place = place; end = suc place; next = next; name_from = n.name_from; name_to = n.name_to } ∷ [])) n.opened 0 0) (suc (suc place + length whites)) rest) (omega arith)
+      skip (Machine.after_open_array stack) (after_open_array_skips stack) whites (begin_value Kind.Array place n) (suc place) (93 ∷ rest)
+      ∙ ap (λ next. recorded (Machine.after_value stack) (notes (n.shapes ++ (record { kind = Kind.Array; place = place; end = suc place; next = next; name_from = n.name_from; name_to = n.name_to } ∷ [])) n.opened 0 0) (suc (suc place + length whites)) rest) (omega arith)
       ∙ here _ _ rest (omega (arith, white_long whites (93 ∷ [])))
   items_recorded (items before value after more) stack n place rest =
-      let s : Shape = record { kind = Kind.List; place = place; end = suc place; next = suc (length n.shapes); name_from = n.name_from; name_to = n.name_to } in
+      let s : Shape = record { kind = Kind.Array; place = place; end = suc place; next = suc (length n.shapes); name_from = n.name_from; name_to = n.name_to } in
       let shapes = n.shapes ++ (s ∷ []) in
       let inner = Machine.in_array ∷ stack in
       let opened = (length shapes - 1) ∷ n.opened in
@@ -182,8 +182,8 @@ mutual
       let firsts = value_shapes value (length shapes) start 0 0 in
       let end = start + value_length value + length after in
       let one : length shapes ≡ suc (length n.shapes) = omega (arith, length-append n.shapes (s ∷ [])) in
-      skip (Machine.after_open_array stack) (after_open_array_skips stack) before (begin_value Kind.List place n) (suc place) (value_bytes value x)
-      ∙ enters_array value stack (begin_value Kind.List place n) start x
+      skip (Machine.after_open_array stack) (after_open_array_skips stack) before (begin_value Kind.Array place n) (suc place) (value_bytes value x)
+      ∙ enters_array value stack (begin_value Kind.Array place n) start x
       ∙ value_recorded value inner (notes shapes opened 0 0) start x (follows_white after _ (follows_more_items more rest))
       ∙ skip (Machine.after_value inner) (after_value_skips inner) after (notes (shapes ++ firsts) opened 0 0) (start + value_length value) (more_items_bytes more rest)
       ∙ more_items_recorded more stack (shapes ++ firsts) opened end rest

@@ -10,7 +10,7 @@ use Rattle.json_text.specs.declared.moves.Move.{Move}
 use Rattle.json_text.specs.declared.scanner.Scanner.{Scanner}
 use Rattle.json_text.specs.declared.refusal.ScanRefusal.{ScanRefusal}
 use Rattle.json_text.specs.declared.state.State as Code
-use Rattle.json_text.specs.declared.state.State.TheVariants.{BeforeValue, AfterOpenList, AfterOpenObject, BeforeName, AfterName, AfterValue, InString, AfterBackslash, InUnit, InLiteral, AfterMinus, AfterNought, InWhole, AfterPoint, InFraction, AfterExponent, AfterSign, InPower}
+use Rattle.json_text.specs.declared.state.State.TheVariants.{BeforeValue, AfterOpenArray, AfterOpenObject, BeforeName, AfterName, AfterValue, InString, AfterBackslash, InUnit, InLiteral, AfterMinus, AfterNought, InWhole, AfterPoint, InFraction, AfterExponent, AfterSign, InPower}
 use Rattle.json_text.specs.declared.state.Spelling.{Spelling}
 use Rattle.json_text.specs.declared.state.Spelling.TheVariants.{Ull, Ll, L, Rue, Ue, E, Alse, Lse, Se}
 use Rattle.json_text.specs.declared.scanner.Frame as Frames
@@ -127,7 +127,7 @@ literal_fits Se stack = omega arith
 
 state_fits : (state : Code.State) (stack : List Frame) → length stack ≤ length (stack_of (state_of state stack))
 state_fits BeforeValue stack = omega arith
-state_fits AfterOpenList stack = omega arith
+state_fits AfterOpenArray stack = omega arith
 state_fits AfterOpenObject stack = omega arith
 state_fits BeforeName stack = omega arith
 state_fits AfterName stack = omega arith

@@ -168,10 +168,9 @@ number_same x y r s p q e =
     let m = fraction_same x.fraction y.fraction _ _ a b l.1 in
     let n = exponent_same x.exponent y.exponent r s p q m.1 in
     let make : Bool → Whole → Option Digits → Option Exponent → Number =
-    λ negative whole fraction exponent. record { negative = negative; whole = whole; fraction = fraction; exponent = exponent } in
-    (
+    λ negative whole fraction exponent. record { negative = negative; whole = whole; fraction = fraction; exponent = exponent } in (
       ap (λ z. make z x.whole x.fraction x.exponent) k.0 ∙ ap (λ z. make y.negative z x.fraction x.exponent) l.0
-      ∙ ap (λ z. make y.negative y.whole z x.exponent) m.0 ∙ ap (make y.negative y.whole y.fraction) n.0,
+          ∙ ap (λ z. make y.negative y.whole z x.exponent) m.0 ∙ ap (make y.negative y.whole y.fraction) n.0,
       n.1,
     )
 
@@ -186,8 +185,7 @@ marks_same (escape x p ∷ xs) (escape y q ∷ ys) r s e =
     (ap (λ z. z ∷ xs) (tested_same is_escape escape x y p q (ap (λ z. first (tail z)) e)) ∙ ap (λ z. escape y q ∷ z) k.0, k.1)
 marks_same (unit a b c d ∷ xs) (unit a' b' c' d' ∷ ys) r s e =
     let behind = ap (λ z. tail (tail z)) e in
-    let k = marks_same xs ys r s (ap (λ z. tail (tail (tail (tail z)))) behind) in
-    (
+    let k = marks_same xs ys r s (ap (λ z. tail (tail (tail (tail z)))) behind) in (
       cc (
         hex_digit_same a a' (ap first behind),
         hex_digit_same b b' (ap (λ z. first (tail z)) behind),

@@ -4,7 +4,8 @@ use Rattle.std.proofs.lemmas.Option.{slice_get-map}
 use Rattle.std.specs.Option.{option_map}
 use Rattle.json_text.specs.Content.{AreRowsOf}
 use Rattle.json_text.specs.Grammar.{white_bytes, mark_bytes, value_bytes, members_bytes, more_members_bytes, text_bytes}
-use Rattle.json_text.specs.Node.{Node, array_items, more_array_items, object_members, more_object_members, node_count, value_length, value_place, string_text}
+use Rattle.json_text.specs.Node.{Node, array_items, more_array_items, object_members, more_object_members, node_count, value_length, value_place}
+use Rattle.json_text.specs.StringText.{string_text}
 use Rattle.json_text.specs.Placed.{IsPart, StandsAt, IsQuoted}
 use Rattle.json_text.specs.Progress.{shape_of}
 use Rattle.json_text.specs.Recording.{Shape}

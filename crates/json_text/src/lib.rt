@@ -14,8 +14,6 @@ mod row;
 mod scanner;
 mod state;
 mod strings;
-#[cfg(test)]
-mod tests;
 mod unescape;
 
 pub use items::JsonItems;
