@@ -23,7 +23,7 @@ nodes_first (string marks) place = refl
 nodes_first (array between) place = refl
 nodes_first (object between) place = refl
 
-node_length : (value : Value) (place : ℕ) → length (value_nodes value place) ≡ node_count value
+pub node_length : (value : Value) (place : ℕ) → length (value_nodes value place) ≡ node_count value
 node_length value place = sym (count_value value 0 0 0 0 place) ∙ count_value value 0 0 0 0 0
 
 module _ (text : Text) where

@@ -14,6 +14,7 @@ mod Lengths
 mod Marks
 mod Nested
 mod NodeExamples
+pub mod Numbers
 mod Places
 mod Quoted
 mod ReadsOn

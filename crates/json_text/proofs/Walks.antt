@@ -51,7 +51,7 @@ value_row rows value k place from to p =
 value_next : (rows : List Row) (value : Value) (k place from to : ℕ) → IsPart (map shape_of rows) (value_shapes value k place from to) k → next_of rows k ≡ k + node_count value
 value_next rows value k place from to p = let f = value_row rows value k place from to p in next_is rows k f.row f.is ∙ ap (λ s. s.next) f.shape
 
-some_nodes : (value : Value) → 0 < node_count value
+pub some_nodes : (value : Value) → 0 < node_count value
 some_nodes (literal word) = omega arith
 some_nodes (number n) = omega arith
 some_nodes (string marks) = omega arith
