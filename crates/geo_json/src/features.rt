@@ -30,8 +30,7 @@ fn read_geometry(
     ensures faults { (j : Json) → IsJsonOf json.now j
         → TellsFirst (geometry_checks j geometry) result }
     ensures value { (j : Json) → IsJsonOf json.now j
-        → IfOk result (λ value. value
-        ≡ map (polygon_of j) (Locations.polygons j geometry)) }
+        → IfOk result (λ value. value ≡ map (polygon_of j) (Locations.polygons j geometry)) }
 {
     let form = form_of(json, geometry)?;
     let coordinates = array_member(json, geometry, "coordinates")?;

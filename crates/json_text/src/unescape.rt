@@ -14,7 +14,7 @@ struct Escape {
     end: usize,
 }
 
-/// The place of the first backslash from there on, or the end.
+/// The index of the first backslash from there on, or of the end.
 fn plain_end(raw: &[u8], from: usize) -> usize
     requires { from ≤ length raw.now }
     ensures after { from ≤ result }
