@@ -1,4 +1,3 @@
-mod Children
 mod Degrees
 mod Existing
 mod FeatureChecks

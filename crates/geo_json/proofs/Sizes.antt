@@ -8,7 +8,7 @@ use Rattle.json_text.specs.Node.{Node, items_nodes, members_nodes, more_items_no
 use Rattle.json_text.specs.Syntax.{White, Digit, Digits, Whole, nought, positive, Sign, unsigned, plus, minus, Exponent, Number, Mark, plain, escape, unit, null_literal, true_literal, false_literal, Value, literal, number, string, array, object, Items, no_items, items, MoreItems, last_item, next_item, Members, no_members, members, MoreMembers, last_member, next_member, Text}
 use Rattle.geo_json.specs.Laws.{FeaturesAreFew}
 use Rattle.geo_json.specs.Scans.{node_at, value_items}
-use Rattle.geo_json.proofs.Children.{RiseWithin, items_within}
+use Rattle.json_text.proofs.Numbers.{RiseWithin, items_within}
 
 white_size : (whites : List White) (rest : List ℕ) → length rest ≤ length (white_bytes whites rest)
 white_size [] rest = omega arith

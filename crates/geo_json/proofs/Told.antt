@@ -5,32 +5,33 @@ use Rattle.std.proofs.lemmas.Slice.Eq.{bytes_eq-Decides}
 use Rattle.std.specs.Str.{bytes_eq}
 use Rattle.feed_meaning.specs.Locations.{Json}
 use Rattle.json_text.specs.Grammar.{IsJson, text_bytes}
-use Rattle.json_text.specs.Node.{MemberNode, Node, HasArray, HasNode, HasNumber, HasObject, HasWord, IsFirstNamed, IsNode, array_items, kind_of, number_text, object_members, string_text, text_nodes, value_nodes}
+use Rattle.json_text.specs.Node.{MemberNode, Node, HasArray, HasNode, HasNumber, HasObject, HasString, IsFirstNamed, IsNode, array_items, kind_of, number_text, object_members, text_nodes, value_nodes}
+use Rattle.json_text.specs.StringText.{string_text}
 use Rattle.json_text.specs.Syntax.{Items, Mark, Members, Number, Text, Value, literal, null_literal, number, string, array, object, true_literal, false_literal}
 use Rattle.json_text.specs.declared.kind.JsonKind.{JsonKind}
 use Rattle.json_text.specs.declared.kind.JsonKind.TheVariants as Kind
 use Rattle.geo_json.specs.Scans.{IsJsonOf, first_named, is_array_value, is_number_value, is_object_value, is_string_value, node_at, value_digits, value_items, value_member, value_text}
 use Rattle.geo_json.specs.There.{AreThere, IsThere, is_value}
-use Rattle.geo_json.proofs.Children.{RiseWithin, items_within, member_within}
+use Rattle.json_text.proofs.Numbers.{RiseWithin, items_within, member_within}
 use mathlib.Core.Path.{subst, ap, sym, ◌∙◌}
 
-abbrev pub is_word_kind : JsonKind → Bool
-is_word_kind Kind.Word = true
-is_word_kind _ = false
+abbrev pub is_string_kind : JsonKind → Bool
+is_string_kind Kind.String = true
+is_string_kind _ = false
 
 abbrev pub is_number_kind : JsonKind → Bool
 is_number_kind Kind.Number = true
 is_number_kind _ = false
 
-abbrev pub is_list_kind : JsonKind → Bool
-is_list_kind Kind.List = true
-is_list_kind _ = false
+abbrev pub is_array_kind : JsonKind → Bool
+is_array_kind Kind.Array = true
+is_array_kind _ = false
 
 abbrev pub is_object_kind : JsonKind → Bool
 is_object_kind Kind.Object = true
 is_object_kind _ = false
 
-pub string_kind : (value : Value) → is_string_value value ≡ is_word_kind (kind_of value)
+pub string_kind : (value : Value) → is_string_value value ≡ is_string_kind (kind_of value)
 string_kind (literal null_literal) = refl
 string_kind (literal true_literal) = refl
 string_kind (literal false_literal) = refl
@@ -48,7 +49,7 @@ number_kind (string marks) = refl
 number_kind (array between) = refl
 number_kind (object between) = refl
 
-pub array_kind : (value : Value) → is_array_value value ≡ is_list_kind (kind_of value)
+pub array_kind : (value : Value) → is_array_value value ≡ is_array_kind (kind_of value)
 array_kind (literal null_literal) = refl
 array_kind (literal true_literal) = refl
 array_kind (literal false_literal) = refl
@@ -172,8 +173,8 @@ module _ (bytes : List ℕ) (k : ℕ) where
   pub has_object : IsThere bytes is_object_value k → HasObject bytes k
   has_object there = let is = object_in there there.json.0 there.json.1 in ((node_at there.json.0 k).place, is.0, (there.json.0, there.json.1, is.2))
 
-  pub has_word : IsThere bytes is_string_value k → HasWord bytes k
-  has_word there = let is = string_in there there.json.0 there.json.1 in ((node_at there.json.0 k).place, is.0, (there.json.0, there.json.1, is.2))
+  pub has_string : IsThere bytes is_string_value k → HasString bytes k
+  has_string there = let is = string_in there there.json.0 there.json.1 in ((node_at there.json.0 k).place, is.0, (there.json.0, there.json.1, is.2))
 
   pub has_number : IsThere bytes is_number_value k → HasNumber bytes k
   has_number there = let is = number_in there there.json.0 there.json.1 in ((node_at there.json.0 k).place, is.0, (there.json.0, there.json.1, is.2))
@@ -234,21 +235,21 @@ module _ (bytes : List ℕ) (k : ℕ) where
     each = λ tree e.
         let is = object_in there tree e in
         let place = (node_at tree k).place in
-        let first : first_named (object_members is.0 k place) name ≡ Some found = sym (named (object_members is.0 k place) name (Some found) (f place is.0 (tree, e, is.2))) in
-        (node_at tree found, slice_get-get_or (text_nodes tree) found (record { place = 0; value = literal null_literal }) (member_within tree k place found is.0 name is.2 first), refl);
+        let within = member_within tree k place found is.0 name is.2 (f place is.0 (tree, e, is.2)) in
+        (node_at tree found, slice_get-get_or (text_nodes tree) found (record { place = 0; value = literal null_literal }) within, refl);
   }
 
-pub not_word : (kind : JsonKind) → (kind ≡ Kind.Word → ⊥) → false ≡ is_word_kind kind
-not_word Kind.Word n = absurd (n refl)
-not_word _ n = refl
+pub not_string : (kind : JsonKind) → (kind ≡ Kind.String → ⊥) → false ≡ is_string_kind kind
+not_string Kind.String n = absurd (n refl)
+not_string _ n = refl
 
 pub not_number : (kind : JsonKind) → (kind ≡ Kind.Number → ⊥) → false ≡ is_number_kind kind
 not_number Kind.Number n = absurd (n refl)
 not_number _ n = refl
 
-pub not_list : (kind : JsonKind) → (kind ≡ Kind.List → ⊥) → false ≡ is_list_kind kind
-not_list Kind.List n = absurd (n refl)
-not_list _ n = refl
+pub not_array : (kind : JsonKind) → (kind ≡ Kind.Array → ⊥) → false ≡ is_array_kind kind
+not_array Kind.Array n = absurd (n refl)
+not_array _ n = refl
 
 pub not_object : (kind : JsonKind) → (kind ≡ Kind.Object → ⊥) → false ≡ is_object_kind kind
 not_object Kind.Object n = absurd (n refl)

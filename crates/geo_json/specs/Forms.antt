@@ -6,7 +6,8 @@ use Rattle.geo_json.specs.declared.form.Form.TheVariants.{Polygon, MultiPolygon}
 
 -- the form that a geometry's type tells
 abbrev pub form_in : Json → ℕ → Form
-form_in json geometry = if is_word json "Polygon" (member json geometry "type") then Polygon else MultiPolygon
+form_in json geometry =
+    if is_word json "Polygon" (member json geometry "type") then Polygon else MultiPolygon
 
 -- the polygons of coordinates
 abbrev pub parts : Form → Json → ℕ → List ℕ

@@ -9,4 +9,5 @@ TextsHaveScans = (bytes : List ℕ) → (scan : Scan) × IsScanOf bytes scan
 
 -- A text that isn't long has few features.
 abbrev pub FeaturesAreFew : Type 0
-FeaturesAreFew = (bytes : List ℕ) (json : Json) → IsJsonOf bytes json → length bytes < 2 ^ 32 → length (feature_nodes json) < 2 ^ 32
+FeaturesAreFew = (bytes : List ℕ) (json : Json)
+    → IsJsonOf bytes json → length bytes < 2 ^ 32 → length (feature_nodes json) < 2 ^ 32

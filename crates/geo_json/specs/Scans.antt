@@ -3,7 +3,8 @@ use Rattle.std.specs.Prelude.{◌≡◌, ℕ, ◌≤◌, Bool, true, false, if�
 use Rattle.std.specs.Str.{bytes_eq}
 use Rattle.feed_meaning.specs.Locations.{Json, Scan, syntax_fault, depth_fault, scanned}
 use Rattle.json_text.specs.Grammar.{depth, text_bytes}
-use Rattle.json_text.specs.Node.{MemberNode, Node, array_items, number_text, object_members, string_text, text_nodes}
+use Rattle.json_text.specs.Node.{MemberNode, Node, array_items, number_text, object_members, text_nodes}
+use Rattle.json_text.specs.StringText.{string_text}
 use Rattle.json_text.specs.Refusal.{IsSyntaxFault, IsTooDeep, greatest_depth}
 use Rattle.json_text.specs.Syntax.{Text, Value, literal, null_literal, number, string, array, object}
 
@@ -38,7 +39,8 @@ is_number_value (object between) = false
 -- the value of the first member with the name
 abbrev pub first_named : List MemberNode → List ℕ → Option ℕ
 first_named [] name = None
-first_named (member ∷ more) name = if bytes_eq member.name name then Some member.number else first_named more name
+first_named (member ∷ more) name =
+    if bytes_eq member.name name then Some member.number else first_named more name
 
 -- the same of the value that has the number and the place; only an object has members
 abbrev pub value_member : Value → ℕ → ℕ → List ℕ → Option ℕ
@@ -74,7 +76,8 @@ value_digits (object between) = []
 
 -- the node that has the number, if there are as many
 abbrev pub node_at : Text → ℕ → Node
-node_at text node = get_or (text_nodes text) node (record { place = 0; value = literal null_literal })
+node_at text node =
+    get_or (text_nodes text) node (record { place = 0; value = literal null_literal })
 
 -- A text's values by the numbers of their nodes, the first of which is the text's value.
 abbrev pub json_of : Text → Json

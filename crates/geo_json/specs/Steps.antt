@@ -6,7 +6,8 @@ use Rattle.flex_model.specs.declared.place.Ring.{Ring}
 use Rattle.geo_json.specs.Walks.{first_fault}
 
 -- The checks of those that were read find nothing, and the values that were made are theirs.
-pub record AreRead {T : Type 0} (checks : ℕ → List Check) (value : ℕ → T) (read : List ℕ) (made : List T) : Type 0 where
+pub record AreRead {T : Type 0} (checks : ℕ → List Check) (value : ℕ → T)
+    (read : List ℕ) (made : List T) : Type 0 where
   pub faultless : first_fault (flat_map checks read) ≡ None
   pub values : made ≡ map value read
 

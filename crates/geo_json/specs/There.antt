@@ -7,7 +7,8 @@ use Rattle.json_text.specs.Syntax.{Text, Value}
 -- The bytes are a JSON text, and its value that has the number passes the test.
 pub record IsThere (bytes : List ℕ) (test : Value → Bool) (node : ℕ) : Type 0 where
   pub json : IsJson bytes
-  pub each : (tree : Text) → text_bytes tree ≡ bytes → (is : Node) × (slice_get (text_nodes tree) node ≡ Some is) × (test is.value ≡ true)
+  pub each : (tree : Text) → text_bytes tree ≡ bytes
+      → (is : Node) × (slice_get (text_nodes tree) node ≡ Some is) × (test is.value ≡ true)
 
 abbrev pub is_value : Value → Bool
 is_value value = true
@@ -15,4 +16,5 @@ is_value value = true
 -- They are values of the text whose numbers rise, from the least on.
 abbrev pub AreThere : List ℕ → ℕ → List ℕ → Type 0
 AreThere bytes least [] = Unit {0}
-AreThere bytes least (node ∷ more) = IsThere bytes is_value node × (least ≤ node) × AreThere bytes (suc node) more
+AreThere bytes least (node ∷ more) =
+    IsThere bytes is_value node × (least ≤ node) × AreThere bytes (suc node) more

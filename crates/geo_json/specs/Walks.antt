@@ -24,10 +24,11 @@ TellsFirst checks (Ok value) = first_fault checks ≡ None
 TellsFirst checks (Err refusal) = Refuses checks refusal
 
 -- the value is a string of this text
-abbrev pub is_spelled : Json → List ℕ → ℕ → Bool
-is_spelled json word node = json.is_word node && bytes_eq (json.text node) word
+abbrev pub has_text : Json → List ℕ → ℕ → Bool
+has_text json wanted node = json.is_word node && bytes_eq (json.text node) wanted
 
 -- the value of the member with the name passes; where there is none the object itself is at fault
 abbrev pub check_named : Json → ℕ → List ℕ → (ℕ → Bool) → Check
 check_named json object name test =
-    option_map_or (λ value. check (test value) (json.place value) GeoShape) (json.member object name) (Some (json.place object, GeoShape))
+    option_map_or (λ value. check (test value) (json.place value) GeoShape)
+    (json.member object name) (Some (json.place object, GeoShape))

@@ -1,4 +1,4 @@
-//! Features of a collection.
+// Features of a collection.
 
 ghost use Rattle.std.specs.Prelude.{◌≡◌, ◌&&◌, List, [], ◌∷◌, ◌++◌, IfOk, codes, length, map, nat_lt};
 ghost use Rattle.feed_meaning.specs.Locations as Locations;
@@ -11,7 +11,7 @@ ghost use Rattle.geo_json.specs.Zones.{feature_in};
 
 use crate::form::form_of;
 use crate::lines::Lines;
-use crate::members::{fault_at, list_member, object_member, required, word_member};
+use crate::members::{array_member, fault_at, object_member, required, text_member};
 use crate::polygons::{is_filled, read_polygons};
 use crate::record::ZoneRecord;
 use crate::refusal::WalkRefusal;
@@ -27,11 +27,13 @@ fn read_geometry(
     geometry: u32,
 ) -> Result<Listed<Polygon>, WalkRefusal>
     requires { IsThere json.now is_object_value geometry }
-    ensures faults { (j : Json) → IsJsonOf json.now j → TellsFirst (geometry_checks j geometry) result }
-    ensures value { (j : Json) → IsJsonOf json.now j → IfOk result (λ value. value ≡ map (polygon_of j) (Locations.polygons j geometry)) }
+    ensures faults { (j : Json) → IsJsonOf json.now j
+        → TellsFirst (geometry_checks j geometry) result }
+    ensures value { (j : Json) → IsJsonOf json.now j
+        → IfOk result (λ value. value ≡ map (polygon_of j) (Locations.polygons j geometry)) }
 {
     let form = form_of(json, geometry)?;
-    let coordinates = list_member(json, geometry, "coordinates")?;
+    let coordinates = array_member(json, geometry, "coordinates")?;
     if !is_filled(json, coordinates) {
         return Err(fault_at(json, coordinates, FaultCode::GeoShape));
     }
@@ -42,8 +44,11 @@ fn read_geometry(
 fn id_member(json: &JsonText<'_>, feature: u32) -> Result<u32, WalkRefusal>
     requires { IsThere json.now is_object_value feature }
     ensures faults { (j : Json) → IsJsonOf json.now j
-        → TellsFirst (check_member j feature "id" (λ v. j.is_word v && nat_lt 0 (length (j.text v))) ∷ []) result }
-    ensures value { (j : Json) → IsJsonOf json.now j → IfOk result (λ value. value ≡ Locations.member j feature "id") }
+        → TellsFirst
+        (check_member j feature "id" (λ v. j.is_word v && nat_lt 0 (length (j.text v))) ∷ [])
+        result }
+    ensures value { (j : Json) → IsJsonOf json.now j
+        → IfOk result (λ value. value ≡ Locations.member j feature "id") }
     ensures there { IfOk result (IsThere json.now is_string_value) }
 {
     let id = required(json, feature, "id")?;
@@ -64,15 +69,18 @@ struct Parts {
 fn own_parts(json: &JsonText<'_>, feature: u32) -> Result<Parts, WalkRefusal>
     requires { IsThere json.now is_value feature }
     ensures faults { (j : Json) → IsJsonOf json.now j → TellsFirst (own_checks j feature) result }
-    ensures id { (j : Json) → IsJsonOf json.now j → IfOk result (λ parts. parts.id ≡ Locations.member j feature "id") }
-    ensures geometry { (j : Json) → IsJsonOf json.now j → IfOk result (λ parts. parts.geometry ≡ Locations.member j feature "geometry") }
+    ensures id { (j : Json) → IsJsonOf json.now j
+        → IfOk result (λ parts. parts.id ≡ Locations.member j feature "id") }
+    ensures geometry { (j : Json) → IsJsonOf json.now j
+        → IfOk result (λ parts. parts.geometry ≡ Locations.member j feature "geometry") }
     ensures id_there { IfOk result (λ parts. IsThere json.now is_string_value parts.id) }
-    ensures geometry_there { IfOk result (λ parts. IsThere json.now is_object_value parts.geometry) }
+    ensures geometry_there { IfOk result
+        (λ parts. IsThere json.now is_object_value parts.geometry) }
 {
     if !is_object(json, feature) {
         return Err(fault_at(json, feature, FaultCode::GeoShape));
     }
-    word_member(json, feature, "type", "Feature")?;
+    text_member(json, feature, "type", "Feature")?;
     let id = id_member(json, feature)?;
     let geometry = object_member(json, feature, "geometry")?;
     Ok(Parts { id, geometry })
@@ -95,8 +103,10 @@ pub(crate) fn read_feature(
     feature: u32,
 ) -> Result<ZoneRecord, WalkRefusal>
     requires { IsThere json.now is_value feature }
-    ensures faults { (j : Json) → IsJsonOf json.now j → TellsFirst (feature_checks j feature) result }
-    ensures value { (j : Json) → IsJsonOf json.now j → IfOk result (λ zone. feature_in zone ≡ feature_of lines.old j feature) }
+    ensures faults { (j : Json) → IsJsonOf json.now j
+        → TellsFirst (feature_checks j feature) result }
+    ensures value { (j : Json) → IsJsonOf json.now j
+        → IfOk result (λ zone. feature_in zone ≡ feature_of lines.old j feature) }
     ensures same { lines.new ≡ lines.old }
 {
     let parts = own_parts(json, feature)?;

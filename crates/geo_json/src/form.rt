@@ -1,4 +1,4 @@
-//! Forms of a geometry.
+// Forms of a geometry.
 
 ghost use Rattle.std.specs.Prelude.{◌≡◌, ◌||◌, [], ◌∷◌, IfOk, codes};
 ghost use Rattle.feed_meaning.specs.Locations as Locations;
@@ -10,7 +10,7 @@ ghost use Rattle.geo_json.specs.Walks.{TellsFirst};
 
 use crate::members::{fault_at, required};
 use crate::refusal::WalkRefusal;
-use crate::values::is_word;
+use crate::values::has_text;
 use flex_model::FaultCode;
 use json_text::JsonText;
 
@@ -25,14 +25,18 @@ pub(crate) enum Form {
 pub(crate) fn form_of(json: &JsonText<'_>, geometry: u32) -> Result<Form, WalkRefusal>
     requires { IsThere json.now is_object_value geometry }
     ensures faults { (j : Json) → IsJsonOf json.now j
-        → TellsFirst (Locations.check_member j geometry "type" (λ v. Locations.is_word j "Polygon" v || Locations.is_word j "MultiPolygon" v) ∷ []) result }
-    ensures value { (j : Json) → IsJsonOf json.now j → IfOk result (λ form. form ≡ form_in j geometry) }
+        → TellsFirst
+        (Locations.check_member j geometry "type"
+        (λ v. Locations.is_word j "Polygon" v || Locations.is_word j "MultiPolygon" v) ∷ [])
+        result }
+    ensures value { (j : Json) → IsJsonOf json.now j
+        → IfOk result (λ form. form ≡ form_in j geometry) }
 {
     let value = required(json, geometry, "type")?;
-    if is_word(json, value, "Polygon") {
+    if has_text(json, value, "Polygon") {
         return Ok(Form::Polygon);
     }
-    if is_word(json, value, "MultiPolygon") {
+    if has_text(json, value, "MultiPolygon") {
         return Ok(Form::MultiPolygon);
     }
     Err(fault_at(json, value, FaultCode::GeoShape))

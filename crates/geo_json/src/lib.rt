@@ -1,5 +1,5 @@
-//! The zones of a GeoJSON text (RFC 7946): the features of `locations.geojson` (GTFS Schedule reference), or the
-//! first thing that is wrong with it.
+//! The zones of a GeoJSON text (RFC 7946): the features of `locations.geojson` (GTFS Schedule
+//! reference), or the first thing that is wrong with it.
 #![tactic(auto)]
 
 mod features;
@@ -12,8 +12,6 @@ mod positions;
 mod record;
 mod refusal;
 mod rings;
-#[cfg(test)]
-mod tests;
 mod values;
 mod zones;
 

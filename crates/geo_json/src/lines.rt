@@ -1,4 +1,4 @@
-//! Lines of a text.
+// Lines of a text.
 
 ghost use Rattle.std.specs.Prelude.{◌≡◌, ◌≤◌, ◌<◌, ◌^◌, count_by, length, nat_eq};
 ghost use Rattle.feed_meaning.specs.Locations.{row_at};
@@ -12,8 +12,8 @@ fn line_feeds(bytes: &[u8]) -> u64
     bytes.iter().filter(|byte| **byte == b'\n').count() as u64
 }
 
-/// Tells the lines of a text's places. It counts on from the last place, so that rising places take one pass.
-/// Contracts see the text's bytes.
+/// Tells the lines of offsets into a text. It counts on from the last one, so that rising offsets
+/// take one pass. Contracts see the text's bytes.
 #[derive(Drop)]
 pub(crate) struct Lines<'a> {
     text: &'a [u8],
@@ -29,7 +29,8 @@ impl<'a> Model for Lines<'a> {
 
     ghost view = { λ lines. lines.text.now };
 
-    ghost invariant = { λ lines. (length lines.text.now < 2 ^ 32) × (lines.place ≤ length lines.text.now)
+    ghost invariant = { λ lines. (length lines.text.now < 2 ^ 32)
+        × (lines.place ≤ length lines.text.now)
         × (lines.line ≡ row_at lines.text.now lines.place) };
 }
 

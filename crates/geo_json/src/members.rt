@@ -1,13 +1,13 @@
-//! Members that an object needs.
+// Members that an object needs.
 
 ghost use Rattle.std.specs.Prelude.{◌≡◌, [], ◌∷◌, None, Some, IfErr, IfOk, unwrap_or};
 ghost use Rattle.feed_meaning.specs.Locations.{Json};
 ghost use Rattle.geo_json.specs.Scans.{IsJsonOf, is_array_value, is_object_value};
 ghost use Rattle.geo_json.specs.There.{IsThere, is_value};
-ghost use Rattle.geo_json.specs.Walks.{TellsFirst, check_named, is_spelled};
+ghost use Rattle.geo_json.specs.Walks.{TellsFirst, check_named, has_text};
 
 use crate::refusal::WalkRefusal;
-use crate::values::{is_list, is_object, is_word, member, place};
+use crate::values::{has_text, is_array, is_object, member, place};
 use flex_model::FaultCode;
 use json_text::JsonText;
 
@@ -28,7 +28,8 @@ pub(crate) fn required(json: &JsonText<'_>, object: u32, name: &str) -> Result<u
     ensures found { (j : Json) → IsJsonOf json.now j
         → IfOk result (λ value. j.member object name.now ≡ Some value) }
     ensures missing { (j : Json) → IsJsonOf json.now j
-        → IfErr result (λ refusal. (j.member object name.now ≡ None) × (refusal ≡ WalkRefusal.Fault FaultCode.GeoShape (j.place object))) }
+        → IfErr result (λ refusal. (j.member object name.now ≡ None)
+        × (refusal ≡ WalkRefusal.Fault FaultCode.GeoShape (j.place object))) }
     ensures there { IfOk result (IsThere json.now is_value) }
 {
     let Some(value) = member(json, object, name) else {
@@ -38,25 +39,25 @@ pub(crate) fn required(json: &JsonText<'_>, object: u32, name: &str) -> Result<u
 }
 
 /// Checks that the member is a string of this text.
-pub(crate) fn word_member(
+pub(crate) fn text_member(
     json: &JsonText<'_>,
     object: u32,
     name: &str,
-    word: &str,
+    text: &str,
 ) -> Result<(), WalkRefusal>
     requires { IsThere json.now is_object_value object }
     ensures { (j : Json) → IsJsonOf json.now j
-        → TellsFirst (check_named j object name.now (is_spelled j word.now) ∷ []) result }
+        → TellsFirst (check_named j object name.now (has_text j text.now) ∷ []) result }
 {
     let value = required(json, object, name)?;
-    if !is_word(json, value, word) {
+    if !has_text(json, value, text) {
         return Err(fault_at(json, value, FaultCode::GeoShape));
     }
     Ok(())
 }
 
 /// The value of a member that is an array.
-pub(crate) fn list_member(json: &JsonText<'_>, object: u32, name: &str) -> Result<u32, WalkRefusal>
+pub(crate) fn array_member(json: &JsonText<'_>, object: u32, name: &str) -> Result<u32, WalkRefusal>
     requires { IsThere json.now is_object_value object }
     ensures faults { (j : Json) → IsJsonOf json.now j
         → TellsFirst (check_named j object name.now j.is_list ∷ []) result }
@@ -65,7 +66,7 @@ pub(crate) fn list_member(json: &JsonText<'_>, object: u32, name: &str) -> Resul
     ensures there { IfOk result (IsThere json.now is_array_value) }
 {
     let value = required(json, object, name)?;
-    if !is_list(json, value) {
+    if !is_array(json, value) {
         return Err(fault_at(json, value, FaultCode::GeoShape));
     }
     Ok(value)

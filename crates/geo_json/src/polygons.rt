@@ -1,4 +1,4 @@
-//! Polygons of a geometry.
+// Polygons of a geometry.
 
 ghost use Rattle.std.specs.Prelude.{◌≡◌, List, [], ◌∷◌, IfOk, IsTrue, map};
 ghost use Rattle.std.specs.List.{flat_map};
@@ -13,7 +13,7 @@ use crate::form::Form;
 use crate::members::fault_at;
 use crate::refusal::WalkRefusal;
 use crate::rings::read_ring;
-use crate::values::{is_list, items};
+use crate::values::{is_array, items};
 use flex_model::{FaultCode, Listed, Polygon, Ring};
 use json_text::JsonText;
 use std::alloc::Global;
@@ -22,9 +22,9 @@ use std::alloc::Global;
 pub(crate) fn is_filled(json: &JsonText<'_>, node: u32) -> bool
     requires { IsThere json.now is_value node }
     ensures value { (j : Json) → IsJsonOf json.now j → result ≡ is_filled_list j node }
-    ensures list { IsTrue result → IsThere json.now is_array_value node }
+    ensures array { IsTrue result → IsThere json.now is_array_value node }
 {
-    if !is_list(json, node) {
+    if !is_array(json, node) {
         return false;
     }
     let mut items = items(json, node);
@@ -34,8 +34,10 @@ pub(crate) fn is_filled(json: &JsonText<'_>, node: u32) -> bool
 /// Reads the rings of a polygon.
 fn read_rings(alloc: Global, json: &JsonText<'_>, polygon: u32) -> Result<Listed<Ring>, WalkRefusal>
     requires { IsThere json.now is_array_value polygon }
-    ensures faults { (j : Json) → IsJsonOf json.now j → TellsFirst (flat_map (ring_checks j) (j.items polygon)) result }
-    ensures value { (j : Json) → IsJsonOf json.now j → IfOk result (λ value. value ≡ map (ring_of j) (j.items polygon)) }
+    ensures faults { (j : Json) → IsJsonOf json.now j
+        → TellsFirst (flat_map (ring_checks j) (j.items polygon)) result }
+    ensures value { (j : Json) → IsJsonOf json.now j
+        → IfOk result (λ value. value ≡ map (ring_of j) (j.items polygon)) }
 {
     let mut rings = Listed::new(alloc);
     for ring in items(json, polygon) {
@@ -48,8 +50,10 @@ fn read_rings(alloc: Global, json: &JsonText<'_>, polygon: u32) -> Result<Listed
 /// Reads a polygon: one ring or more.
 fn read_polygon(alloc: Global, json: &JsonText<'_>, polygon: u32) -> Result<Polygon, WalkRefusal>
     requires { IsThere json.now is_value polygon }
-    ensures faults { (j : Json) → IsJsonOf json.now j → TellsFirst (polygon_checks j polygon) result }
-    ensures value { (j : Json) → IsJsonOf json.now j → IfOk result (λ value. value ≡ polygon_of j polygon) }
+    ensures faults { (j : Json) → IsJsonOf json.now j
+        → TellsFirst (polygon_checks j polygon) result }
+    ensures value { (j : Json) → IsJsonOf json.now j
+        → IfOk result (λ value. value ≡ polygon_of j polygon) }
 {
     if !is_filled(json, polygon) {
         return Err(fault_at(json, polygon, FaultCode::GeoShape));
@@ -65,8 +69,10 @@ fn read_one(
     polygon: u32,
 ) -> Result<Listed<Polygon>, WalkRefusal>
     requires { IsThere json.now is_value polygon }
-    ensures faults { (j : Json) → IsJsonOf json.now j → TellsFirst (flat_map (polygon_checks j) (polygon ∷ [])) result }
-    ensures value { (j : Json) → IsJsonOf json.now j → IfOk result (λ value. value ≡ polygon_of j polygon ∷ []) }
+    ensures faults { (j : Json) → IsJsonOf json.now j
+        → TellsFirst (flat_map (polygon_checks j) (polygon ∷ [])) result }
+    ensures value { (j : Json) → IsJsonOf json.now j
+        → IfOk result (λ value. value ≡ polygon_of j polygon ∷ []) }
 {
     let polygon = read_polygon(alloc, json, polygon)?;
     let mut polygons = Listed::new(alloc);
@@ -78,14 +84,16 @@ fn read_one(
 fn read_several(
     alloc: Global,
     json: &JsonText<'_>,
-    list: u32,
+    array: u32,
 ) -> Result<Listed<Polygon>, WalkRefusal>
-    requires { IsThere json.now is_array_value list }
-    ensures faults { (j : Json) → IsJsonOf json.now j → TellsFirst (flat_map (polygon_checks j) (j.items list)) result }
-    ensures value { (j : Json) → IsJsonOf json.now j → IfOk result (λ value. value ≡ map (polygon_of j) (j.items list)) }
+    requires { IsThere json.now is_array_value array }
+    ensures faults { (j : Json) → IsJsonOf json.now j
+        → TellsFirst (flat_map (polygon_checks j) (j.items array)) result }
+    ensures value { (j : Json) → IsJsonOf json.now j
+        → IfOk result (λ value. value ≡ map (polygon_of j) (j.items array)) }
 {
     let mut polygons = Listed::new(alloc);
-    for polygon in items(json, list) {
+    for polygon in items(json, array) {
         let polygon = read_polygon(alloc, json, polygon)?;
         polygons.push(polygon)?;
     }
@@ -99,10 +107,12 @@ pub(crate) fn read_polygons(
     form: Form,
     coordinates: u32,
 ) -> Result<Listed<Polygon>, WalkRefusal>
-    requires list { IsThere json.now is_array_value coordinates }
+    requires array { IsThere json.now is_array_value coordinates }
     requires value { IsThere json.now is_value coordinates }
-    ensures faults { (j : Json) → IsJsonOf json.now j → TellsFirst (flat_map (polygon_checks j) (parts form j coordinates)) result }
-    ensures value { (j : Json) → IsJsonOf json.now j → IfOk result (λ value. value ≡ map (polygon_of j) (parts form j coordinates)) }
+    ensures faults { (j : Json) → IsJsonOf json.now j
+        → TellsFirst (flat_map (polygon_checks j) (parts form j coordinates)) result }
+    ensures value { (j : Json) → IsJsonOf json.now j
+        → IfOk result (λ value. value ≡ map (polygon_of j) (parts form j coordinates)) }
 {
     match form {
         Form::Polygon => read_one(alloc, json, coordinates),

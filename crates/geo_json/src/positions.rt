@@ -1,4 +1,4 @@
-//! Positions of a ring.
+// Positions of a ring.
 
 ghost use Rattle.std.specs.Prelude.{◌≡◌, ◌&&◌, List, [], ◌∷◌, ℕ, None, Some, IfErr, IfOk, IfSome, MatchOption, false, is_some, length, nat_le};
 ghost use Rattle.feed_meaning.specs.Locations.{Json, latitude, longitude, position_checks, position_of};
@@ -9,7 +9,7 @@ ghost use Rattle.geo_json.specs.Walks.{TellsFirst};
 
 use crate::members::fault_at;
 use crate::refusal::WalkRefusal;
-use crate::values::{digits, is_list, is_number, items};
+use crate::values::{digits, is_array, is_number, items};
 use field_text::read_degree;
 use flex_model::{FaultCode, Position};
 use json_text::JsonText;
@@ -21,28 +21,33 @@ const MOST_LONGITUDE: i64 = 180_000_000_000_000_000;
 const MOST_LATITUDE: i64 = 90_000_000_000_000_000;
 
 /// The first two items of an array, where it has two.
-fn first_two(json: &JsonText<'_>, list: u32) -> Option<(u32, u32)>
-    requires { IsThere json.now is_array_value list }
-    ensures items { (j : Json) → IsJsonOf json.now j → MatchOption result (nat_le 2 (length (j.items list)) ≡ false)
-        (λ two. (more : List ℕ) × (j.items list ≡ two.0 ∷ two.1 ∷ more)) }
-    ensures there { IfSome result (λ two. IsThere json.now is_value two.0 × IsThere json.now is_value two.1) }
+fn first_two(json: &JsonText<'_>, array: u32) -> Option<(u32, u32)>
+    requires { IsThere json.now is_array_value array }
+    ensures items { (j : Json) → IsJsonOf json.now j
+        → MatchOption result (nat_le 2 (length (j.items array)) ≡ false)
+        (λ two. (more : List ℕ) × (j.items array ≡ two.0 ∷ two.1 ∷ more)) }
+    ensures there { IfSome result
+        (λ two. IsThere json.now is_value two.0 × IsThere json.now is_value two.1) }
 {
-    let mut items = items(json, list);
+    let mut items = items(json, array);
     let first = items.next()?;
     let second = items.next()?;
     Some((first, second))
 }
 
-/// The longitude and the latitude of a position, where it has the shape of one: an array that begins with two numbers.
+/// The longitude and the latitude of a position, where it has the shape of one: an array that
+/// begins with two numbers.
 fn coordinates(json: &JsonText<'_>, position: u32) -> Option<(u32, u32)>
     requires { IsThere json.now is_value position }
     ensures shape { (j : Json) → IsJsonOf json.now j → is_some result
-        ≡ (j.is_list position && nat_le 2 (length (j.items position)) && j.is_number (longitude j position) && j.is_number (latitude j position)) }
+        ≡ (j.is_list position && nat_le 2 (length (j.items position))
+        && j.is_number (longitude j position) && j.is_number (latitude j position)) }
     ensures value { (j : Json) → IsJsonOf json.now j → IfSome result
         (λ two. (two.0 ≡ longitude j position) × (two.1 ≡ latitude j position)) }
-    ensures there { IfSome result (λ two. IsThere json.now is_number_value two.0 × IsThere json.now is_number_value two.1) }
+    ensures there { IfSome result
+        (λ two. IsThere json.now is_number_value two.0 × IsThere json.now is_number_value two.1) }
 {
-    if !is_list(json, position) {
+    if !is_array(json, position) {
         return None;
     }
     let (longitude, latitude) = first_two(json, position)?;
@@ -70,7 +75,8 @@ fn latitude_of(text: &str) -> Option<i64>
 fn told_by(json: &JsonText<'_>, number: u32, degree: Option<i64>) -> Result<i64, WalkRefusal>
     requires { IsThere json.now is_value number }
     ensures fault { (j : Json) → IsJsonOf json.now j
-        → IfErr result (λ refusal. (degree ≡ None) × (refusal ≡ WalkRefusal.Fault FaultCode.BadCoordinate (j.place number))) }
+        → IfErr result (λ refusal. (degree ≡ None)
+        × (refusal ≡ WalkRefusal.Fault FaultCode.BadCoordinate (j.place number))) }
     ensures value { IfOk result (λ value. degree ≡ Some value) }
 {
     match degree {
@@ -79,11 +85,14 @@ fn told_by(json: &JsonText<'_>, number: u32, degree: Option<i64>) -> Result<i64,
     }
 }
 
-/// Reads a position: its first two items are its longitude and its latitude, and others are passed over.
+/// Reads a position: its first two items are its longitude and its latitude, and others are passed
+/// over.
 pub(crate) fn read_position(json: &JsonText<'_>, position: u32) -> Result<Position, WalkRefusal>
     requires { IsThere json.now is_value position }
-    ensures faults { (j : Json) → IsJsonOf json.now j → TellsFirst (position_checks j position) result }
-    ensures value { (j : Json) → IsJsonOf json.now j → IfOk result (λ value. value ≡ position_of j position) }
+    ensures faults { (j : Json) → IsJsonOf json.now j
+        → TellsFirst (position_checks j position) result }
+    ensures value { (j : Json) → IsJsonOf json.now j
+        → IfOk result (λ value. value ≡ position_of j position) }
 {
     let Some((longitude, latitude)) = coordinates(json, position) else {
         return Err(fault_at(json, position, FaultCode::GeoShape));

@@ -1,4 +1,4 @@
-//! A zone as it was read.
+// A zone as it was read.
 
 use flex_model::{Listed, Polygon, Text};
 
@@ -9,7 +9,7 @@ pub struct ZoneRecord {
     pub line: u64,
     /// The feature's `id`, not empty. An earlier feature may have the same.
     pub id: Text,
-    /// The polygons of its geometry, one at least. Each has a ring, and each ring has four corners or more and ends
-    /// where it begins.
+    /// The polygons of its geometry, one at least. Each has a ring, and each ring has four corners
+    /// or more and ends where it begins.
     pub polygons: Listed<Polygon>,
 }

@@ -1,4 +1,4 @@
-//! Why a text has no zones.
+// Why a text has no zones.
 
 ghost use Rattle.std.specs.Prelude.{◌≡◌, ◌<◌, ◌^◌, length};
 ghost use Rattle.geo_json.specs.Refusals as Refusals;

@@ -1,4 +1,4 @@
-//! Rings of a polygon.
+// Rings of a polygon.
 
 ghost use Rattle.std.specs.Prelude.{◌≡◌, List, IfOk};
 ghost use Rattle.std.specs.List.{flat_map};
@@ -11,7 +11,7 @@ ghost use Rattle.geo_json.specs.Walks.{TellsFirst};
 use crate::members::fault_at;
 use crate::positions::read_position;
 use crate::refusal::WalkRefusal;
-use crate::values::{is_list, items};
+use crate::values::{is_array, items};
 use flex_model::{FaultCode, Listed, Position, Ring};
 use json_text::JsonText;
 use std::alloc::Global;
@@ -26,8 +26,10 @@ fn read_corners(
     ring: u32,
 ) -> Result<Listed<Position>, WalkRefusal>
     requires { IsThere json.now is_array_value ring }
-    ensures faults { (j : Json) → IsJsonOf json.now j → TellsFirst (flat_map (position_checks j) (j.items ring)) result }
-    ensures value { (j : Json) → IsJsonOf json.now j → IfOk result (λ value. value ≡ corners j ring) }
+    ensures faults { (j : Json) → IsJsonOf json.now j
+        → TellsFirst (flat_map (position_checks j) (j.items ring)) result }
+    ensures value { (j : Json) → IsJsonOf json.now j
+        → IfOk result (λ value. value ≡ corners j ring) }
 {
     let mut corners = Listed::new(alloc);
     for position in items(json, ring) {
@@ -51,9 +53,10 @@ fn closes(corners: &[Position]) -> bool
 pub(crate) fn read_ring(alloc: Global, json: &JsonText<'_>, ring: u32) -> Result<Ring, WalkRefusal>
     requires { IsThere json.now is_value ring }
     ensures faults { (j : Json) → IsJsonOf json.now j → TellsFirst (ring_checks j ring) result }
-    ensures value { (j : Json) → IsJsonOf json.now j → IfOk result (λ value. value ≡ record { corners = corners j ring }) }
+    ensures value { (j : Json) → IsJsonOf json.now j
+        → IfOk result (λ value. value ≡ record { corners = corners j ring }) }
 {
-    if !is_list(json, ring) {
+    if !is_array(json, ring) {
         return Err(fault_at(json, ring, FaultCode::GeoShape));
     }
     let corners = read_corners(alloc, json, ring)?;

@@ -1,4 +1,4 @@
-//! The values of a scanned text.
+// The values of a scanned text.
 
 ghost use Rattle.std.specs.Prelude.{◌≡◌, ◌&&◌, suc, IfSome, IsTrue};
 ghost use Rattle.std.specs.Str.{bytes_eq};
@@ -32,12 +32,12 @@ pub(crate) fn is_object(json: &JsonText<'_>, node: u32) -> bool
     matches!(json.kind(node), JsonKind::Object)
 }
 
-pub(crate) fn is_list(json: &JsonText<'_>, node: u32) -> bool
+pub(crate) fn is_array(json: &JsonText<'_>, node: u32) -> bool
     requires { IsThere json.now is_value node }
     ensures value { (j : Json) → IsJsonOf json.now j → result ≡ j.is_list node }
-    ensures list { IsTrue result → IsThere json.now is_array_value node }
+    ensures array { IsTrue result → IsThere json.now is_array_value node }
 {
-    matches!(json.kind(node), JsonKind::List)
+    matches!(json.kind(node), JsonKind::Array)
 }
 
 pub(crate) fn is_string(json: &JsonText<'_>, node: u32) -> bool
@@ -45,7 +45,7 @@ pub(crate) fn is_string(json: &JsonText<'_>, node: u32) -> bool
     ensures value { (j : Json) → IsJsonOf json.now j → result ≡ j.is_word node }
     ensures string { IsTrue result → IsThere json.now is_string_value node }
 {
-    matches!(json.kind(node), JsonKind::Word)
+    matches!(json.kind(node), JsonKind::String)
 }
 
 pub(crate) fn is_number(json: &JsonText<'_>, node: u32) -> bool
@@ -73,12 +73,12 @@ pub(crate) fn digits<'a>(json: &'a JsonText<'_>, number: u32) -> &'a str
 }
 
 /// The items of an array.
-pub(crate) fn items<'a>(json: &'a JsonText<'_>, list: u32) -> JsonItems<'a>
-    requires { IsThere json.now is_array_value list }
-    ensures value { (j : Json) → IsJsonOf json.now j → result ≡ j.items list }
-    ensures there { AreThere json.now (suc list) result }
+pub(crate) fn items<'a>(json: &'a JsonText<'_>, array: u32) -> JsonItems<'a>
+    requires { IsThere json.now is_array_value array }
+    ensures value { (j : Json) → IsJsonOf json.now j → result ≡ j.items array }
+    ensures there { AreThere json.now (suc array) result }
 {
-    json.items(list)
+    json.items(array)
 }
 
 /// The value of the first member with the name.
@@ -91,10 +91,10 @@ pub(crate) fn member(json: &JsonText<'_>, object: u32, name: &str) -> Option<u32
 }
 
 /// Whether the value is a string of this text.
-pub(crate) fn is_word(json: &JsonText<'_>, node: u32, word: &str) -> bool
+pub(crate) fn has_text(json: &JsonText<'_>, node: u32, wanted: &str) -> bool
     requires { IsThere json.now is_value node }
     ensures { (j : Json) → IsJsonOf json.now j
-        → result ≡ (j.is_word node && bytes_eq (j.text node) word.now) }
+        → result ≡ (j.is_word node && bytes_eq (j.text node) wanted.now) }
 {
-    is_string(json, node) && text(json, node) == word
+    is_string(json, node) && text(json, node) == wanted
 }

@@ -1,5 +1,5 @@
 -- What is within an array or an object is a node of the text too.
-use Rattle.std.proofs.Common.{◌≡◌, ℕ, zero, suc, List, [], ◌∷◌, ◌++◌, Some, refl, arith, ◌+◌, length, slice_get}
+use Rattle.std.proofs.Common.{◌≡◌, ℕ, suc, List, [], ◌∷◌, refl, arith, ◌+◌, length}
 use Rattle.json_text.specs.Grammar.{text_bytes}
 use Rattle.json_text.specs.Node.{Node, IsNode, AreNodes, ItemsAreNodes, MembersAreNodes, array_items, more_array_items, object_members, more_object_members, member_values, node_count, value_length, value_place, value_nodes, items_nodes, more_items_nodes, members_nodes, more_members_nodes, text_nodes}
 use Rattle.json_text.specs.Placed.{IsPart}
@@ -7,7 +7,7 @@ use Rattle.json_text.specs.Syntax.{Value, literal, number, string, array, object
 use Rattle.json_text.proofs.Kept.{part_first}
 use Rattle.json_text.proofs.Lengths.{count_value}
 use Rattle.json_text.proofs.Places.{node_placed, part_head, part_rest, part_tail}
-use mathlib.Core.Path.{subst, ap, sym, ◌∙◌}
+use mathlib.Core.Path.{subst, sym, ◌∙◌}
 
 abbrev inner_nodes : Value → ℕ → List Node
 inner_nodes (literal word) place = []
@@ -23,7 +23,7 @@ nodes_first (string marks) place = refl
 nodes_first (array between) place = refl
 nodes_first (object between) place = refl
 
-node_length : (value : Value) (place : ℕ) → length (value_nodes value place) ≡ node_count value
+pub node_length : (value : Value) (place : ℕ) → length (value_nodes value place) ≡ node_count value
 node_length value place = sym (count_value value 0 0 0 0 place) ∙ count_value value 0 0 0 0 0
 
 module _ (text : Text) where

@@ -1,12 +1,12 @@
 -- What a scanned text tells of its nodes.
-use Rattle.std.proofs.Common.{◌≡◌, ◌≢◌, ℕ, zero, suc, List, [], ◌∷◌, ◌++◌, Option, Some, None, ◌⊎◌, inl, inr, refl, arith, ◌+◌, ◌-◌, ◌≤◌, ◌<◌, length, map, get_or, slice_get, slice_range, unwrap_or}
+use Rattle.std.proofs.Common.{◌≡◌, ◌≢◌, ℕ, suc, List, [], ◌∷◌, Option, Some, None, inl, inr, refl, arith, ◌+◌, ◌-◌, ◌≤◌, ◌<◌, length, map, get_or, slice_get, slice_range}
 use Rattle.std.proofs.lemmas.Option.{slice_get-get_or, slice_get_within}
-use Rattle.json_text.specs.Content.{AreRowsOf, AreCopied, HasFigures, HasName, HasString, HasText, IsContent, text_or}
+use Rattle.json_text.specs.Content.{AreRowsOf, HasNumberAt, HasName, HasStringAt, HasText, text_or}
 use Rattle.json_text.specs.Grammar.{IsJsonWithin, text_bytes, number_bytes, value_bytes}
-use Rattle.json_text.specs.Node.{Node, MemberNode, IsNode, HasNode, HasArray, HasObject, HasWord, HasNumber, IsFirstNamed, array_items, object_members, kind_of, node_count, text_nodes, value_nodes, string_text, number_text}
-use Rattle.json_text.specs.Placed.{IsPart, IsPlaced, IsQuoted, StandsAt}
+use Rattle.json_text.specs.Node.{Node, MemberNode, IsNode, HasNode, HasArray, HasObject, HasString, HasNumber, IsFirstNamed, array_items, object_members, kind_of, text_nodes, value_nodes}
+use Rattle.json_text.specs.StringText.{string_text}
+use Rattle.json_text.specs.Placed.{IsPlaced, IsQuoted, StandsAt}
 use Rattle.json_text.specs.Progress.{shape_of}
-use Rattle.json_text.specs.Shapes.{shape}
 use Rattle.json_text.specs.Syntax.{Mark, Number, Value, literal, number, string, array, object, Items, Members, Text}
 use Rattle.json_text.specs.Unescaping.{ReadsAs}
 use Rattle.json_text.specs.Walk.{next_of, walk, Rises, HasNameAt, AreMembers}
@@ -48,8 +48,8 @@ module _ (bytes : List ℕ) (rows : List Row) (are : AreRowsOf bytes rows) where
   pub object_node : (k : ℕ) → HasObject bytes k → HasNode bytes k
   object_node k (place, between, is) = (record { place = place; value = object between }, is)
 
-  pub word_node : (k : ℕ) → HasWord bytes k → HasNode bytes k
-  word_node k (place, marks, is) = (record { place = place; value = string marks }, is)
+  pub string_node : (k : ℕ) → HasString bytes k → HasNode bytes k
+  string_node k (place, marks, is) = (record { place = place; value = string marks }, is)
 
   pub number_node : (k : ℕ) → HasNumber bytes k → HasNode bytes k
   number_node k (place, n, is) = (record { place = place; value = number n }, is)
@@ -82,12 +82,12 @@ module _ (bytes : List ℕ) (rows : List Row) (are : AreRowsOf bytes rows) where
       record { stands = subst (StandsAt bytes (value_bytes (string marks))) (sym a) p.stands; end = omega (arith, a, b) }
 
 pub copy_there : (bytes : List ℕ) (rows : List Row) (k : ℕ) (row : Row) → AreRowsOf bytes rows → IsJsonWithin 64 bytes → k < length rows → slice_get rows k ≡ Some row
-    → row.kind ≡ Kind.Word → HasString bytes row.place (row.end - 1)
+    → row.kind ≡ Kind.String → HasStringAt bytes row.place (row.end - 1)
 copy_there bytes rows k row are json r e w =
     let n = node_at rows bytes json.0 k are json.1 r in word_there (text_nodes json.0) rows bytes k n.node row n.placed e w
 
 pub name_copy_there : (bytes : List ℕ) (rows : List Row) (k : ℕ) (row : Row) → AreRowsOf bytes rows → IsJsonWithin 64 bytes → k < length rows → slice_get rows k ≡ Some row
-    → 0 < row.name_from → HasString bytes (row.name_from - 1) row.name_to
+    → 0 < row.name_from → HasStringAt bytes (row.name_from - 1) row.name_to
 name_copy_there bytes rows k row are json r e w =
     let n = node_at rows bytes json.0 k are json.1 r in name_there (text_nodes json.0) rows bytes k n.node row n.placed e w
 
@@ -147,7 +147,7 @@ is_name rows bytes child row name read h e r =
     reads bytes h.marks (row.name_from - 1) row.name_to read (subst (λ x. IsQuoted bytes h.marks (x.name_from - 1) x.name_to) same h.quoted) (r from) ∙ h.text
 
 pub name_stands : (rows : List Row) (bytes : List ℕ) (child : ℕ) (row : Row) (name : List ℕ) → HasNameAt rows bytes child name → slice_get rows child ≡ Some row
-    → (0 < row.name_from) × HasString bytes (row.name_from - 1) row.name_to
+    → (0 < row.name_from) × HasStringAt bytes (row.name_from - 1) row.name_to
 name_stands rows bytes child row name h e =
     let same : h.row ≡ row = same_row (slice_get rows child) h.row row h.is e in
     (subst (λ x. 0 < x.name_from) same h.some, (h.marks, subst (λ x. IsQuoted bytes h.marks (x.name_from - 1) x.name_to) same h.quoted))
@@ -183,7 +183,7 @@ found_nowhere rows bytes name first child last r s whole m = let l = s.left whol
 
 -- The next member's name stands there.
 pub next_name : (rows : List Row) (bytes name : List ℕ) (first child last : ℕ) → child < last → IsSearching rows bytes name first child last
-    → ((whole : List MemberNode) × AreMembers rows bytes whole first last) → (row : Row) → slice_get rows child ≡ Some row → (0 < row.name_from) × HasString bytes (row.name_from - 1) row.name_to
+    → ((whole : List MemberNode) × AreMembers rows bytes whole first last) → (row : Row) → slice_get rows child ≡ Some row → (0 < row.name_from) × HasStringAt bytes (row.name_from - 1) row.name_to
 next_name rows bytes name first child last r s has row e =
     let l = s.left has.0 has.1 in
     let n = next_member_of rows bytes l.0 child last r l.1 in
@@ -195,7 +195,7 @@ name_reads bytes row lent copy read e f h r =
     subst (ReadsAs (slice_range bytes (row.name_from - 1 + 1) row.name_to)) (sym (e ∙ ap (text_or bytes (row.name_from - 1) row.name_to) f)) (h r)
 
 pub text_reads : (bytes : List ℕ) (row : Row) (lent copy : Option (List ℕ)) (read : List ℕ) → read ≡ text_or bytes row.place (row.end - 1) lent → lent ≡ copy → HasText bytes row copy
-    → row.kind ≡ Kind.Word → ReadsAs (slice_range bytes (row.place + 1) (row.end - 1)) read
+    → row.kind ≡ Kind.String → ReadsAs (slice_range bytes (row.place + 1) (row.end - 1)) read
 text_reads bytes row lent copy read e f h r =
     subst (ReadsAs (slice_range bytes (row.place + 1) (row.end - 1))) (sym (e ∙ ap (text_or bytes row.place (row.end - 1)) f)) (h r)
 
@@ -203,9 +203,9 @@ text_reads bytes row lent copy read e f h r =
 abbrev pub no_row : Row
 no_row = record { kind = Kind.Null; place = 0; end = 0; next = 0; name_from = 0; name_to = 0 }
 
-pub figures_there : (bytes : List ℕ) (rows : List Row) (are : AreRowsOf bytes rows) (k place : ℕ) (n : Number) (row : Row) → IsNode bytes k (record { place = place; value = number n }) → slice_get rows k ≡ Some row
-    → HasFigures bytes row.place row.end
-figures_there bytes rows are k place n row is e =
+pub has_number_at : (bytes : List ℕ) (rows : List Row) (are : AreRowsOf bytes rows) (k place : ℕ) (n : Number) (row : Row) → IsNode bytes k (record { place = place; value = number n }) → slice_get rows k ≡ Some row
+    → HasNumberAt bytes row.place row.end
+has_number_at bytes rows are k place n row is e =
     let p = placed bytes rows are k (record { place = place; value = number n }) is in
     let s = row_shape (text_nodes is.0) rows bytes k (record { place = place; value = number n }) row p e in
     let a : row.place ≡ place = ap (λ s. s.place) s in

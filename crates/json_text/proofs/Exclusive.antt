@@ -1,8 +1,8 @@
 -- No text has two answers.
-use Rattle.std.proofs.Common.{◌≡◌, ℕ, zero, suc, Bool, true, false, List, [], ◌∷◌, ◌++◌, ◌⊎◌, inl, inr, Result, Ok, Err, IfOk, IfErr, IsOkUnless, refl, arith, ◌+◌, ◌≤◌, ◌<◌, length, take, drop, append_assoc, nat_lt}
+use Rattle.std.proofs.Common.{◌≡◌, ℕ, zero, suc, Bool, true, false, List, [], ◌∷◌, ◌++◌, inl, inr, Result, Ok, Err, IfOk, IfErr, IsOkUnless, refl, arith, ◌≤◌, ◌<◌, take, drop, append_assoc, nat_lt}
 use Rattle.std.proofs.lemmas.List.{take-append-drop}
 use Rattle.json_text.specs.Answer.{IsRefusal, IsRefusedWith}
-use Rattle.json_text.specs.Grammar.{IsJson, IsJsonWithin, BeginsJson, BeginsJsonWithin}
+use Rattle.json_text.specs.Grammar.{IsJsonWithin, BeginsJsonWithin}
 use Rattle.json_text.specs.Refusal.{greatest_depth, IsSyntaxFault, IsTooDeep}
 use Rattle.json_text.specs.declared.refusal.ScanRefusal.{ScanRefusal}
 use Rattle.json_text.specs.declared.refusal.ScanRefusal.TheVariants.{Syntax, Depth, NoMemory}

@@ -1,5 +1,5 @@
 -- The innermost array or object that is open.
-use Rattle.std.proofs.Common.{◌≡◌, ℕ, List, [], ◌∷◌, Option, Some, None, refl, arith}
+use Rattle.std.proofs.Common.{◌≡◌, ℕ, List, [], ◌∷◌, Option, Some, None, arith}
 use Rattle.json_text.specs.Machine
 use Rattle.json_text.specs.Machine.{Frame}
 use Rattle.json_text.specs.Moves.{IsInnermost, IsMove, frame_of}

@@ -1,15 +1,15 @@
 -- What the rows of a text tell of its nodes.
 use Rattle.std.proofs.Common.{◌≡◌, ℕ, zero, suc, Bool, true, false, List, [], ◌∷◌, ◌++◌, Option, Some, None, refl, arith, ◌+◌, ◌-◌, ◌≤◌, ◌<◌, length, map, get_or, slice_get, length-append, nat_lt}
-use Rattle.std.proofs.lemmas.Option.{slice_get-map, slice_get_read, slice_get_within, slice_get-get_or}
+use Rattle.std.proofs.lemmas.Option.{slice_get-map}
 use Rattle.std.specs.Option.{option_map}
-use Rattle.json_text.specs.Content.{AreRowsOf, AreCopied, HasName, HasString, HasText}
-use Rattle.json_text.specs.Grammar.{mark_bytes, value_bytes, text_bytes}
-use Rattle.json_text.specs.Node.{Node, IsNode, HasNode, kind_of, node_count, value_length, value_nodes, text_nodes}
-use Rattle.json_text.specs.Placed.{IsPart, IsPlaced, IsNamed, IsQuoted, StandsAt}
+use Rattle.json_text.specs.Content.{AreRowsOf, AreCopied, HasName, HasStringAt, HasText}
+use Rattle.json_text.specs.Grammar.{value_bytes, text_bytes}
+use Rattle.json_text.specs.Node.{Node, kind_of, value_length, text_nodes}
+use Rattle.json_text.specs.Placed.{IsPart, IsPlaced, IsNamed, StandsAt}
 use Rattle.json_text.specs.Progress.{shape_of}
 use Rattle.json_text.specs.Recording.{Shape}
 use Rattle.json_text.specs.Shapes.{shape, value_shapes, items_shapes, members_shapes, text_shapes}
-use Rattle.json_text.specs.Syntax.{Mark, null_literal, true_literal, false_literal, Value, literal, number, string, array, object, Text}
+use Rattle.json_text.specs.Syntax.{null_literal, true_literal, false_literal, Value, literal, number, string, array, object, Text}
 use Rattle.json_text.specs.declared.kind.JsonKind.{JsonKind}
 use Rattle.json_text.specs.declared.kind.JsonKind.TheVariants as Kind
 use Rattle.json_text.specs.declared.row.Row.{Row}
@@ -95,15 +95,15 @@ node_at rows bytes text k are e r =
     let some = some_at (text_nodes text) k (omega (arith, r, node_count_of rows bytes text are e)) in
     record { node = some.0; is = some.1; placed = placed_in rows bytes text k some.0 are e some.1 }
 
-abbrev is_word : JsonKind → Bool
-is_word Kind.Word = true
-is_word _ = false
+abbrev is_string : JsonKind → Bool
+is_string Kind.String = true
+is_string _ = false
 
 other : {A : Type 0} → false ≡ true → A
 other e = absurd (grind (arith, e))
 
 -- A string stands where its node does.
-string_there : (bytes : List ℕ) (value : Value) (place last : ℕ) → is_word (kind_of value) ≡ true → last ≡ token_end value place - 1 → StandsAt bytes (value_bytes value) place → HasString bytes place last
+string_there : (bytes : List ℕ) (value : Value) (place last : ℕ) → is_string (kind_of value) ≡ true → last ≡ token_end value place - 1 → StandsAt bytes (value_bytes value) place → HasStringAt bytes place last
 string_there bytes (string marks) place last w e t = (marks, record { stands = t; end = omega (arith, e) })
 string_there bytes (literal null_literal) place last w e t = other w
 string_there bytes (literal true_literal) place last w e t = other w
@@ -113,24 +113,24 @@ string_there bytes (array between) place last w e t = other w
 string_there bytes (object between) place last w e t = other w
 
 pub word_there : (nodes : List Node) (rows : List Row) (bytes : List ℕ) (k : ℕ) (node : Node) (row : Row) → IsPlaced nodes (map shape_of rows) bytes k node → slice_get rows k ≡ Some row
-    → row.kind ≡ Kind.Word → HasString bytes row.place (row.end - 1)
+    → row.kind ≡ Kind.String → HasStringAt bytes row.place (row.end - 1)
 word_there nodes rows bytes k node row p e w =
     let s = row_shape nodes rows bytes k node row p e in
-    subst (λ n. HasString bytes n (row.end - 1)) (sym (ap (λ x. x.place) s))
-    (string_there bytes node.value node.place (row.end - 1) (ap (λ x. is_word x.kind) (sym s) ∙ ap is_word w) (ap (λ x. x.end - 1) s) p.stands)
+    subst (λ n. HasStringAt bytes n (row.end - 1)) (sym (ap (λ x. x.place) s))
+    (string_there bytes node.value node.place (row.end - 1) (ap (λ x. is_string x.kind) (sym s) ∙ ap is_string w) (ap (λ x. x.end - 1) s) p.stands)
 
-named_there : (bytes : List ℕ) (from to : ℕ) → IsNamed bytes from to → 0 < from → HasString bytes (from - 1) to
+named_there : (bytes : List ℕ) (from to : ℕ) → IsNamed bytes from to → 0 < from → HasStringAt bytes (from - 1) to
 named_there bytes zero to n r = absurd (omega (arith, r))
-named_there bytes (suc quote) to n r = let e : quote ≡ suc quote - 1 = omega arith in subst (λ k. HasString bytes k to) e n
+named_there bytes (suc quote) to n r = let e : quote ≡ suc quote - 1 = omega arith in subst (λ k. HasStringAt bytes k to) e n
 
 pub name_there : (nodes : List Node) (rows : List Row) (bytes : List ℕ) (k : ℕ) (node : Node) (row : Row) → IsPlaced nodes (map shape_of rows) bytes k node → slice_get rows k ≡ Some row
-    → 0 < row.name_from → HasString bytes (row.name_from - 1) row.name_to
+    → 0 < row.name_from → HasStringAt bytes (row.name_from - 1) row.name_to
 name_there nodes rows bytes k node row p e r =
     let s = row_shape nodes rows bytes k node row p e in
     let from : row.name_from ≡ p.name_from = ap (λ x. x.name_from) s in
     let to : row.name_to ≡ p.name_to = ap (λ x. x.name_to) s in
-    subst (λ n. HasString bytes (n - 1) row.name_to) (sym from)
-    (subst (λ n. HasString bytes (p.name_from - 1) n) (sym to) (named_there bytes p.name_from p.name_to p.named (omega (arith, r, from))))
+    subst (λ n. HasStringAt bytes (n - 1) row.name_to) (sym from)
+    (subst (λ n. HasStringAt bytes (p.name_from - 1) n) (sym to) (named_there bytes p.name_from p.name_to p.named (omega (arith, r, from))))
 
 -- One more row has its copies.
 get_before : (xs : List (Option (List ℕ))) (x : Option (List ℕ)) (k : ℕ) → k < length xs → get_or (xs ++ (x ∷ [])) k None ≡ get_or xs k None

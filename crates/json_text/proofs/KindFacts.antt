@@ -1,7 +1,7 @@
 -- What a node's kind tells, and which nodes an array's items and an object's members are: for callers.
-use Rattle.std.proofs.Common.{◌≡◌, ℕ, List, [], ◌∷◌, Option, None, Some, ◌⊎◌, inl, inr, Bool, true, false, refl, arith}
-use Rattle.json_text.specs.Grammar.{IsJsonWithin, text_bytes}
-use Rattle.json_text.specs.Node.{Node, NumberedNode, MemberNode, IsNode, HasNode, HasArray, HasNumber, HasObject, HasWord, AreNodes, IsFirstNamed, kind_of, member_values, object_members}
+use Rattle.std.proofs.Common.{◌≡◌, ℕ, List, [], ◌∷◌, Some, inl, inr, Bool, true, false, arith}
+use Rattle.json_text.specs.Grammar.{IsJsonWithin}
+use Rattle.json_text.specs.Node.{Node, MemberNode, IsNode, HasNode, HasArray, HasNumber, HasObject, HasString, AreNodes, IsFirstNamed, kind_of, member_values, object_members}
 use Rattle.json_text.specs.Syntax.{null_literal, true_literal, false_literal, Value, literal, number, string, array, object, Members}
 use Rattle.json_text.specs.declared.kind.JsonKind.{JsonKind}
 use Rattle.json_text.specs.declared.kind.JsonKind.TheVariants as Kind
@@ -9,17 +9,17 @@ use Rattle.json_text.proofs.Children.{members_are_nodes}
 use Rattle.json_text.proofs.Content.{root_node}
 use mathlib.Core.Path.{subst, ap, sym, ◌∙◌}
 
-abbrev is_word : JsonKind → Bool
-is_word Kind.Word = true
-is_word _ = false
+abbrev is_string : JsonKind → Bool
+is_string Kind.String = true
+is_string _ = false
 
 abbrev is_number : JsonKind → Bool
 is_number Kind.Number = true
 is_number _ = false
 
-abbrev is_list : JsonKind → Bool
-is_list Kind.List = true
-is_list _ = false
+abbrev is_array : JsonKind → Bool
+is_array Kind.Array = true
+is_array _ = false
 
 abbrev is_object : JsonKind → Bool
 is_object Kind.Object = true
@@ -28,14 +28,14 @@ is_object _ = false
 wrong : {A : Type 0} → false ≡ true → A
 wrong e = absurd (grind (arith, e))
 
-word_by : (bytes : List ℕ) (k place : ℕ) (value : Value) → IsNode bytes k (record { place = place; value = value }) → is_word (kind_of value) ≡ true → HasWord bytes k
-word_by bytes k place (string marks) is e = (place, marks, is)
-word_by bytes k place (literal null_literal) is e = wrong e
-word_by bytes k place (literal true_literal) is e = wrong e
-word_by bytes k place (literal false_literal) is e = wrong e
-word_by bytes k place (number n) is e = wrong e
-word_by bytes k place (array between) is e = wrong e
-word_by bytes k place (object between) is e = wrong e
+string_by : (bytes : List ℕ) (k place : ℕ) (value : Value) → IsNode bytes k (record { place = place; value = value }) → is_string (kind_of value) ≡ true → HasString bytes k
+string_by bytes k place (string marks) is e = (place, marks, is)
+string_by bytes k place (literal null_literal) is e = wrong e
+string_by bytes k place (literal true_literal) is e = wrong e
+string_by bytes k place (literal false_literal) is e = wrong e
+string_by bytes k place (number n) is e = wrong e
+string_by bytes k place (array between) is e = wrong e
+string_by bytes k place (object between) is e = wrong e
 
 number_by : (bytes : List ℕ) (k place : ℕ) (value : Value) → IsNode bytes k (record { place = place; value = value }) → is_number (kind_of value) ≡ true → HasNumber bytes k
 number_by bytes k place (number n) is e = (place, n, is)
@@ -46,7 +46,7 @@ number_by bytes k place (string marks) is e = wrong e
 number_by bytes k place (array between) is e = wrong e
 number_by bytes k place (object between) is e = wrong e
 
-array_by : (bytes : List ℕ) (k place : ℕ) (value : Value) → IsNode bytes k (record { place = place; value = value }) → is_list (kind_of value) ≡ true → HasArray bytes k
+array_by : (bytes : List ℕ) (k place : ℕ) (value : Value) → IsNode bytes k (record { place = place; value = value }) → is_array (kind_of value) ≡ true → HasArray bytes k
 array_by bytes k place (array between) is e = (place, between, is)
 array_by bytes k place (literal null_literal) is e = wrong e
 array_by bytes k place (literal true_literal) is e = wrong e
@@ -65,14 +65,14 @@ object_by bytes k place (number n) is e = wrong e
 object_by bytes k place (array between) is e = wrong e
 
 -- `kind` answered so: the node is such a value.
-pub has_word : (bytes : List ℕ) (k : ℕ) (kind : JsonKind) → HasNode bytes k → ((is : Node) → IsNode bytes k is → kind ≡ kind_of is.value) → kind ≡ Kind.Word → HasWord bytes k
-has_word bytes k kind (node, is) f e = word_by bytes k node.place node.value is (ap is_word (sym (f node is) ∙ e))
+pub has_string : (bytes : List ℕ) (k : ℕ) (kind : JsonKind) → HasNode bytes k → ((is : Node) → IsNode bytes k is → kind ≡ kind_of is.value) → kind ≡ Kind.String → HasString bytes k
+has_string bytes k kind (node, is) f e = string_by bytes k node.place node.value is (ap is_string (sym (f node is) ∙ e))
 
 pub has_number : (bytes : List ℕ) (k : ℕ) (kind : JsonKind) → HasNode bytes k → ((is : Node) → IsNode bytes k is → kind ≡ kind_of is.value) → kind ≡ Kind.Number → HasNumber bytes k
 has_number bytes k kind (node, is) f e = number_by bytes k node.place node.value is (ap is_number (sym (f node is) ∙ e))
 
-pub has_array : (bytes : List ℕ) (k : ℕ) (kind : JsonKind) → HasNode bytes k → ((is : Node) → IsNode bytes k is → kind ≡ kind_of is.value) → kind ≡ Kind.List → HasArray bytes k
-has_array bytes k kind (node, is) f e = array_by bytes k node.place node.value is (ap is_list (sym (f node is) ∙ e))
+pub has_array : (bytes : List ℕ) (k : ℕ) (kind : JsonKind) → HasNode bytes k → ((is : Node) → IsNode bytes k is → kind ≡ kind_of is.value) → kind ≡ Kind.Array → HasArray bytes k
+has_array bytes k kind (node, is) f e = array_by bytes k node.place node.value is (ap is_array (sym (f node is) ∙ e))
 
 pub has_object : (bytes : List ℕ) (k : ℕ) (kind : JsonKind) → HasNode bytes k → ((is : Node) → IsNode bytes k is → kind ≡ kind_of is.value) → kind ≡ Kind.Object → HasObject bytes k
 has_object bytes k kind (node, is) f e = object_by bytes k node.place node.value is (ap is_object (sym (f node is) ∙ e))

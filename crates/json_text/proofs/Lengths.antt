@@ -1,10 +1,10 @@
 -- What follows a production follows its own bytes, and how many nodes there are.
-use Rattle.std.proofs.Common.{◌≡◌, ℕ, zero, suc, Bool, true, false, List, [], ◌∷◌, ◌++◌, Option, Some, None, refl, arith, ◌+◌, ◌≤◌, length, append_assoc, length-append}
+use Rattle.std.proofs.Common.{◌≡◌, ℕ, suc, Bool, true, false, List, [], ◌∷◌, ◌++◌, Option, Some, None, refl, arith, ◌+◌, length, append_assoc, length-append}
 use Rattle.json_text.specs.Syntax.{White, Digit, Digits, Whole, nought, positive, Sign, unsigned, plus, minus, Exponent, Number, Mark, plain, escape, unit, Literal, null_literal, true_literal, false_literal, Value, literal, number, string, array, object, Items, no_items, items, MoreItems, last_item, next_item, Members, no_members, members, MoreMembers, last_member, next_member}
 use Rattle.json_text.specs.Grammar.{white_byte, white_bytes, digit_bytes, whole_bytes, fraction_bytes, letter_byte, exponent_bytes, sign_bytes, minus_bytes, number_bytes, mark_bytes, literal_bytes, value_bytes, items_bytes, more_items_bytes, members_bytes, more_members_bytes}
-use Rattle.json_text.specs.Node.{value_nodes, items_nodes, more_items_nodes, members_nodes, more_members_nodes, node_count, value_length, name_length}
+use Rattle.json_text.specs.Node.{value_nodes, items_nodes, more_items_nodes, members_nodes, more_members_nodes}
 use Rattle.json_text.specs.Shapes.{value_shapes, items_shapes, more_items_shapes, members_shapes, more_members_shapes}
-use mathlib.Core.Path.{subst, ap, sym, ◌∙◌}
+use mathlib.Core.Path.{ap, sym, ◌∙◌}
 
 abbrev pub Splits : (List ℕ → List ℕ) → Type 0
 Splits f = (rest : List ℕ) → f rest ≡ f [] ++ rest

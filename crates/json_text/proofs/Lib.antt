@@ -14,6 +14,7 @@ mod Lengths
 mod Marks
 mod Nested
 mod NodeExamples
+pub mod Numbers
 mod Places
 mod Quoted
 mod ReadsOn
@@ -21,4 +22,5 @@ mod Recorded
 mod Rows
 mod Settled
 mod Steps
+mod Unambiguous
 mod Walks

@@ -1,12 +1,12 @@
 -- What stands in a string, mark by mark.
-use Rattle.std.proofs.Common.{◌≡◌, ℕ, zero, suc, Bool, true, false, cond, ◌&&◌, List, [], ◌∷◌, ◌++◌, refl, arith, ◌+◌, ◌-◌, ◌*◌, ◌≤◌, ◌<◌, ◌⊎◌, inl, inr, length, drop, take, get_or, length-append, length-drop, append_assoc, encode_utf8, slice_range}
+use Rattle.std.proofs.Common.{◌≡◌, ℕ, zero, suc, Bool, true, false, ◌&&◌, List, [], ◌∷◌, ◌++◌, refl, arith, ◌+◌, ◌-◌, ◌*◌, ◌≤◌, ◌<◌, ◌⊎◌, inl, inr, length, drop, take, get_or, length-append, length-drop, append_assoc, encode_utf8, slice_range}
 use Rattle.std.proofs.lemmas.List.{drop-append-le, drop-drop, get_or-drop}
 use Rattle.std.proofs.lemmas.List.Folds.{drop_split}
 use Rattle.std.proofs.lemmas.Str.{encode_ascii, IsCharBoundary-start, IsCharBoundary-end, IsCharBoundary-before_ascii, IsCharBoundary-after_ascii}
 use Rattle.std.specs.Str.{IsCharBoundary, IsUtf8}
 use Rattle.json_text.specs.Byte.{is_plain, is_escape, is_hex_digit}
 use Rattle.json_text.specs.Grammar.{mark_bytes}
-use Rattle.json_text.specs.Node.{string_text, text_after_unit, unit_value, hex_value, escaped_byte, is_high, is_low, alone, paired}
+use Rattle.json_text.specs.StringText.{string_text, text_after_unit, unit_value, hex_value, escaped_byte, is_high, is_low, alone, paired}
 use Rattle.json_text.specs.Syntax.{HexDigit, Mark, plain, escape, unit}
 use Rattle.json_text.specs.Unescaping.{HasMarks, ReadsAs, Passes, unit_at, IsLowAt, LacksLow, IsUnescaping}
 use mathlib.Core.Path.{subst, ap, sym, ◌∙◌}

@@ -1,18 +1,18 @@
 -- What is noted of a text's bytes are the shapes of its values.
-use Rattle.std.proofs.Common.{◌≡◌, ℕ, zero, suc, Bool, true, false, cond, ◌||◌, ◌==◌, List, [], ◌∷◌, ◌++◌, refl, arith, ◌+◌, ◌-◌, ◌≤◌, length, append_assoc, length-append}
+use Rattle.std.proofs.Common.{◌≡◌, ℕ, suc, Bool, true, false, ◌||◌, ◌==◌, List, [], ◌∷◌, ◌++◌, refl, arith, ◌+◌, ◌-◌, length, append_assoc, length-append}
 use Rattle.json_text.specs.Byte.{is_white, is_first_digit}
-use Rattle.json_text.specs.Syntax.{White, Whole, nought, positive, Number, Mark, Literal, null_literal, true_literal, false_literal, Value, literal, number, string, array, object, Items, no_items, items, MoreItems, last_item, next_item, Members, no_members, members, MoreMembers, last_member, next_member, Text}
+use Rattle.json_text.specs.Syntax.{White, Whole, nought, positive, Mark, null_literal, true_literal, false_literal, Value, literal, number, string, array, object, Items, no_items, items, MoreItems, last_item, next_item, Members, no_members, members, MoreMembers, last_member, next_member, Text}
 use Rattle.json_text.specs.Grammar.{white_bytes, minus_bytes, whole_bytes, mark_bytes, number_bytes, value_bytes, items_bytes, more_items_bytes, members_bytes, more_members_bytes, text_bytes}
 use Rattle.json_text.specs.Machine as Machine
 use Rattle.json_text.specs.Machine.{State, Frame, step}
-use Rattle.json_text.specs.Node.{node_count, value_length, name_length, value_place, kind_of}
-use Rattle.json_text.specs.Recording.{Shape, Notes, recorded, noted, begin_value, end_value, enter, close, change, no_notes}
+use Rattle.json_text.specs.Node.{node_count, value_length, value_place}
+use Rattle.json_text.specs.Recording.{Shape, Notes, recorded, begin_value, end_value, enter, close, change, no_notes}
 use Rattle.json_text.specs.Shapes.{shape, value_shapes, items_shapes, more_items_shapes, members_shapes, more_members_shapes, text_shapes}
 use Rattle.json_text.specs.declared.kind.JsonKind.{JsonKind}
 use Rattle.json_text.specs.declared.kind.JsonKind.TheVariants as Kind
-use Rattle.json_text.proofs.Lengths.{value_splits, marks_split, number_splits, more_items_split, more_members_split, items_split, members_split, long, white_long, count_value, count_items, count_members, count_more_items, count_more_members}
+use Rattle.json_text.proofs.Lengths.{value_splits, marks_split, number_splits, long, white_long, count_value, count_items, count_members}
 use Rattle.json_text.proofs.Recorded.{Follows, follows_white, here, skip, before_value_skips, after_open_array_skips, after_open_object_skips, before_name_skips, after_name_skips, after_value_skips, name_recorded, string_recorded, number_recorded}
-use mathlib.Core.Path.{subst, ap, sym, ◌∙◌}
+use mathlib.Core.Path.{ap, ◌∙◌}
 
 abbrev pub notes : List Shape → List ℕ → ℕ → ℕ → Notes
 notes shapes opened from to = record { shapes = shapes; opened = opened; name_from = from; name_to = to }
@@ -160,20 +160,20 @@ mutual
       number_recorded x.negative x.whole x.fraction x.exponent stack rest f n place (place + value_length (number x)) (omega (arith, long (number_bytes x) (number_splits x) rest))
       ∙ ap (λ m. recorded (Machine.after_value stack) m (place + value_length (number x)) rest) (ended Kind.Number n place (place + value_length (number x)) (length n.shapes + 1) (omega arith))
   value_recorded (string marks) stack n place rest f =
-      string_recorded marks stack (begin_value Kind.Word place n) (suc place) (place + value_length (string marks)) rest (omega arith)
-      ∙ ap (λ m. recorded (Machine.after_value stack) m (place + value_length (string marks)) rest) (ended Kind.Word n place (place + value_length (string marks)) (length n.shapes + 1) (omega arith))
+      string_recorded marks stack (begin_value Kind.String place n) (suc place) (place + value_length (string marks)) rest (omega arith)
+      ∙ ap (λ m. recorded (Machine.after_value stack) m (place + value_length (string marks)) rest) (ended Kind.String n place (place + value_length (string marks)) (length n.shapes + 1) (omega arith))
   value_recorded (array between) stack n place rest f = items_recorded between stack n place rest
   value_recorded (object between) stack n place rest f = members_recorded between stack n place rest
 
   items_recorded : (between : Items) (stack : List Frame) (n : Notes) (place : ℕ) (rest : List ℕ)
-      → recorded (Machine.after_open_array stack) (begin_value Kind.List place n) (suc place) (items_bytes between rest)
+      → recorded (Machine.after_open_array stack) (begin_value Kind.Array place n) (suc place) (items_bytes between rest)
       ≡ recorded (Machine.after_value stack) (with_value (array between) place n) (place + value_length (array between)) rest
   items_recorded (no_items whites) stack n place rest =
-      skip (Machine.after_open_array stack) (after_open_array_skips stack) whites (begin_value Kind.List place n) (suc place) (93 ∷ rest)
-      ∙ ap (λ next. recorded (Machine.after_value stack) (notes (n.shapes ++ (record { kind = Kind.List; place = place; end = suc place; next = next; name_from = n.name_from; name_to = n.name_to } ∷ [])) n.opened 0 0) (suc (suc place + length whites)) rest) (omega arith)
+      skip (Machine.after_open_array stack) (after_open_array_skips stack) whites (begin_value Kind.Array place n) (suc place) (93 ∷ rest)
+      ∙ ap (λ next. recorded (Machine.after_value stack) (notes (n.shapes ++ (record { kind = Kind.Array; place = place; end = suc place; next = next; name_from = n.name_from; name_to = n.name_to } ∷ [])) n.opened 0 0) (suc (suc place + length whites)) rest) (omega arith)
       ∙ here _ _ rest (omega (arith, white_long whites (93 ∷ [])))
   items_recorded (items before value after more) stack n place rest =
-      let s : Shape = record { kind = Kind.List; place = place; end = suc place; next = suc (length n.shapes); name_from = n.name_from; name_to = n.name_to } in
+      let s : Shape = record { kind = Kind.Array; place = place; end = suc place; next = suc (length n.shapes); name_from = n.name_from; name_to = n.name_to } in
       let shapes = n.shapes ++ (s ∷ []) in
       let inner = Machine.in_array ∷ stack in
       let opened = (length shapes - 1) ∷ n.opened in
@@ -182,8 +182,8 @@ mutual
       let firsts = value_shapes value (length shapes) start 0 0 in
       let end = start + value_length value + length after in
       let one : length shapes ≡ suc (length n.shapes) = omega (arith, length-append n.shapes (s ∷ [])) in
-      skip (Machine.after_open_array stack) (after_open_array_skips stack) before (begin_value Kind.List place n) (suc place) (value_bytes value x)
-      ∙ enters_array value stack (begin_value Kind.List place n) start x
+      skip (Machine.after_open_array stack) (after_open_array_skips stack) before (begin_value Kind.Array place n) (suc place) (value_bytes value x)
+      ∙ enters_array value stack (begin_value Kind.Array place n) start x
       ∙ value_recorded value inner (notes shapes opened 0 0) start x (follows_white after _ (follows_more_items more rest))
       ∙ skip (Machine.after_value inner) (after_value_skips inner) after (notes (shapes ++ firsts) opened 0 0) (start + value_length value) (more_items_bytes more rest)
       ∙ more_items_recorded more stack (shapes ++ firsts) opened end rest

@@ -1,7 +1,8 @@
 -- The nodes of short texts.
 use Rattle.std.proofs.Common.{◌≡◌, ◌≢◌, ◌⊎◌, inl, inr, ℕ, suc, false, List, [], ◌∷◌, Some, None, refl, arith}
 use Rattle.json_text.specs.Grammar.{text_bytes}
-use Rattle.json_text.specs.Node.{text_nodes, object_members, IsFirstNamed, string_text}
+use Rattle.json_text.specs.Node.{text_nodes, object_members, IsFirstNamed}
+use Rattle.json_text.specs.StringText.{string_text}
 use Rattle.json_text.specs.Syntax.{HexDigit, positive, plain, unit, Value, number, object, Members, members, next_member, last_member, Text}
 
 abbrev hex : (b : ℕ) → Rattle.json_text.specs.Byte.is_hex_digit b ≡ Rattle.std.proofs.Common.true → HexDigit

@@ -1,8 +1,8 @@
 -- The nodes of a text stand at their places, and their shapes at their numbers.
-use Rattle.std.proofs.Common.{◌≡◌, ℕ, zero, suc, List, [], ◌∷◌, ◌++◌, Option, Some, None, refl, arith, ◌+◌, ◌<◌, ◌≤◌, length, drop, slice_get, append_assoc, length-append}
+use Rattle.std.proofs.Common.{◌≡◌, ℕ, zero, suc, List, [], ◌∷◌, ◌++◌, Option, Some, None, refl, arith, ◌+◌, length, drop, slice_get, append_assoc, length-append}
 use Rattle.json_text.specs.Syntax.{White, Mark, Value, literal, number, string, array, object, Items, no_items, items, MoreItems, last_item, next_item, Members, no_members, members, MoreMembers, last_member, next_member, Text}
 use Rattle.json_text.specs.Grammar.{white_bytes, mark_bytes, value_bytes, items_bytes, more_items_bytes, members_bytes, more_members_bytes, text_bytes}
-use Rattle.json_text.specs.Node.{Node, value_nodes, items_nodes, more_items_nodes, members_nodes, more_members_nodes, text_nodes, node_count, value_length, name_length, value_place}
+use Rattle.json_text.specs.Node.{Node, value_nodes, items_nodes, more_items_nodes, members_nodes, more_members_nodes, text_nodes, node_count, value_length, value_place}
 use Rattle.json_text.specs.Placed.{IsPart, StandsAt, IsQuoted, IsNamed, IsPlaced}
 use Rattle.json_text.specs.Recording.{Shape}
 use Rattle.json_text.specs.Shapes.{value_shapes, items_shapes, more_items_shapes, members_shapes, more_members_shapes, text_shapes}

@@ -3,13 +3,12 @@ use Rattle.std.proofs.Common.{◌≡◌, ℕ, zero, suc, Bool, true, false, Opti
 use Rattle.std.proofs.lemmas.List.{get_or-drop}
 use Rattle.std.proofs.lemmas.Str.{IsCharBoundary-before_ascii, IsCharBoundary-after_ascii}
 use Rattle.std.specs.Str.{IsCharBoundary, IsUtf8}
-use Rattle.json_text.specs.Content.{HasString}
+use Rattle.json_text.specs.Content.{HasStringAt}
 use Rattle.json_text.specs.Byte.{is_digit, is_first_digit}
 use Rattle.json_text.specs.Grammar.{digit_bytes, exponent_bytes, fraction_bytes, letter_byte, mark_bytes, minus_bytes, number_bytes, sign_bytes, whole_bytes}
 use Rattle.json_text.specs.Node.{number_text}
 use Rattle.json_text.specs.Placed.{IsQuoted, StandsAt}
 use Rattle.json_text.specs.Syntax.{Digit, Digits, Exponent, ExponentLetter, lower, upper, Mark, plain, escape, unit, Number, Sign, unsigned, plus, minus, Whole, nought, positive}
-use Rattle.json_text.specs.Unescaping.{HasMarks}
 use Rattle.json_text.proofs.Lengths.{marks_split, number_splits}
 use mathlib.Core.Path.{subst, ap, sym, ◌∙◌}
 
@@ -73,13 +72,13 @@ quoted_facts bytes marks place last q =
       raw = k.whole ∙ ap (λ z. z ++ (34 ∷ [])) (sym (ap (take (last - (place + 1))) behind ∙ take_first k.raw (34 ∷ rest) (last - (place + 1)) (omega (arith, lasts))));
     }
 
-pub string_facts : (bytes : List ℕ) (place last : ℕ) (has : HasString bytes place last) → QuotedFacts bytes has.0 place last
+pub string_facts : (bytes : List ℕ) (place last : ℕ) (has : HasStringAt bytes place last) → QuotedFacts bytes has.0 place last
 string_facts bytes place last has = quoted_facts bytes has.0 place last has.1
 
-pub before_last : (bytes : List ℕ) (place last : ℕ) → HasString bytes place last → IsCharBoundary bytes last
+pub before_last : (bytes : List ℕ) (place last : ℕ) → HasStringAt bytes place last → IsCharBoundary bytes last
 before_last bytes place last has = let k = string_facts bytes place last has in IsCharBoundary-before_ascii bytes last k.within (omega (arith, k.end))
 
-pub after_first : (bytes : List ℕ) (place last : ℕ) → IsUtf8 bytes → HasString bytes place last → IsCharBoundary bytes (place + 1)
+pub after_first : (bytes : List ℕ) (place last : ℕ) → IsUtf8 bytes → HasStringAt bytes place last → IsCharBoundary bytes (place + 1)
 after_first bytes place last utf8 has =
     let k = string_facts bytes place last has in IsCharBoundary-after_ascii bytes place utf8 (omega (arith, k.within, k.order)) (omega (arith, k.first))
 

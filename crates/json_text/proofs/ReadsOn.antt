@@ -1,21 +1,19 @@
 -- The scanner reads on, stops at a fault, or comes to the end.
-use Rattle.std.proofs.Common.{◌≡◌, ℕ, zero, suc, Bool, true, false, List, [], ◌∷◌, ◌++◌, refl, arith, ◌≤◌, ◌<◌, ◌+◌, length, take, drop, get_or, add-one}
+use Rattle.std.proofs.Common.{◌≡◌, ℕ, zero, suc, Bool, true, false, List, [], ◌∷◌, ◌++◌, refl, arith, ◌≤◌, ◌<◌, length, take, drop, get_or}
 use Rattle.std.proofs.Math.Seq.{drop-cons, take-suc}
-use Rattle.std.proofs.lemmas.List.{take-append-drop}
 use Rattle.json_text.specs.Answer.{IsRefusal}
 use Rattle.json_text.specs.Grammar.{IsJsonWithin}
-use Rattle.json_text.specs.Machine as Machine
-use Rattle.json_text.specs.Machine.{State, step, run, start, is_end, is_fault, stack_of, StaysWithin}
+use Rattle.json_text.specs.Machine.{step, run, start, is_end, is_fault, stack_of, StaysWithin}
 use Rattle.json_text.specs.Progress.{machine_of, notes_of, HasRead, IsRefused}
 use Rattle.json_text.specs.Reading.{IsReading}
-use Rattle.json_text.specs.Recording.{Notes, noted, no_notes, recorded, finished}
+use Rattle.json_text.specs.Recording.{no_notes, recorded, finished}
 use Rattle.json_text.specs.Refusal.{greatest_depth, IsSyntaxFault}
 use Rattle.json_text.specs.declared.refusal.ScanRefusal.{ScanRefusal}
 use Rattle.json_text.specs.declared.refusal.ScanRefusal.TheVariants.{Syntax, Depth, NoMemory}
 use Rattle.json_text.specs.declared.scanner.Scanner.{Scanner}
 use Rattle.json_text.proofs.Accepts.{machine_accepts_within}
 use Rattle.json_text.proofs.Found.{fault_is_found, depth_is_found, end_is_alive, take_all}
-use Rattle.json_text.proofs.Steps.{run_append, run_one, stays_one}
+use Rattle.json_text.proofs.Steps.{run_one, stays_one}
 use mathlib.Core.Path.{subst, ap, sym, ◌∙◌}
 
 next_bytes : (bytes : List ℕ) (at b : ℕ) → at < length bytes → get_or bytes at 0 ≡ b → take (suc at) bytes ≡ take at bytes ++ (b ∷ [])

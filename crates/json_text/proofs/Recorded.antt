@@ -1,17 +1,14 @@
 -- What is noted of a text's bytes are the shapes of its values: parts that are no array and no object.
-use Rattle.std.proofs.Common.{◌≡◌, ℕ, zero, suc, Bool, true, false, cond, ◌||◌, ◌==◌, List, [], ◌∷◌, ◌++◌, Option, Some, None, refl, arith, ◌+◌, ◌-◌, ◌≤◌, length, append_assoc, length-append}
-use Rattle.json_text.specs.Byte.{is_white, is_digit, is_first_digit, is_exponent, is_plain, is_escape, is_hex_digit}
-use Rattle.json_text.specs.Syntax.{White, space, tab, line_feed, carriage_return, Digit, Digits, Whole, nought, positive, Sign, unsigned, plus, minus, ExponentLetter, lower, upper, Exponent, Number, Mark, plain, escape, unit, Literal, null_literal, true_literal, false_literal, Value, literal, number, string, array, object}
-use Rattle.json_text.specs.Grammar.{white_byte, white_bytes, digit_bytes, whole_bytes, fraction_bytes, exponent_bytes, sign_bytes, minus_bytes, unsigned_bytes, number_bytes, mark_bytes, literal_bytes, value_bytes}
+use Rattle.std.proofs.Common.{◌≡◌, ℕ, suc, Bool, true, false, ◌==◌, List, [], ◌∷◌, Option, Some, None, refl, arith, ◌+◌, length}
+use Rattle.json_text.specs.Byte.{is_digit, is_exponent}
+use Rattle.json_text.specs.Syntax.{White, space, tab, line_feed, carriage_return, Digit, Digits, Whole, nought, positive, Sign, unsigned, plus, minus, ExponentLetter, lower, upper, Exponent, Mark, plain, escape, unit}
+use Rattle.json_text.specs.Grammar.{white_byte, white_bytes, digit_bytes, whole_bytes, fraction_bytes, exponent_bytes, sign_bytes, minus_bytes, mark_bytes}
 use Rattle.json_text.specs.Machine as Machine
 use Rattle.json_text.specs.Machine.{State, Frame, step}
-use Rattle.json_text.specs.Node.{node_count, value_length, kind_of}
-use Rattle.json_text.specs.Recording.{Shape, Notes, recorded, noted, settled, settled_notes, moved_notes, begin_value, end_value, end_name, change}
-use Rattle.json_text.specs.Shapes.{shape, value_shapes}
-use Rattle.json_text.specs.declared.kind.JsonKind.{JsonKind}
+use Rattle.json_text.specs.Recording.{Notes, recorded, noted, settled, settled_notes, moved_notes, begin_value, end_value, end_name}
 use Rattle.json_text.specs.declared.kind.JsonKind.TheVariants as Kind
-use Rattle.json_text.proofs.Lengths.{digits_long, value_splits, long}
-use mathlib.Core.Path.{subst, ap, sym, ◌∙◌}
+use Rattle.json_text.proofs.Lengths.{digits_long}
+use mathlib.Core.Path.{ap, ◌∙◌}
 
 -- What may follow a value: nothing, or a byte that goes on with no number.
 abbrev pub Follows : List ℕ → Type 0

@@ -1,8 +1,7 @@
 -- Rows, and the shapes that they stand for.
-use Rattle.std.proofs.Common.{◌≡◌, ℕ, zero, suc, List, [], ◌∷◌, ◌++◌, refl, arith, ◌+◌, ◌-◌, ◌<◌, ◌≤◌, length, map, get_or, slice_set, take, drop, reverse}
+use Rattle.std.proofs.Common.{◌≡◌, ℕ, zero, suc, List, [], ◌∷◌, ◌++◌, refl, arith, ◌-◌, ◌<◌, ◌≤◌, length, map, get_or, slice_set}
 use Rattle.json_text.specs.Recording.{Shape, Notes, change, close}
 use Rattle.json_text.specs.Progress.{shape_of, stack_in, numbers_in}
-use Rattle.json_text.specs.Machine
 use Rattle.json_text.specs.Moves.{frame_of}
 use Rattle.json_text.specs.declared.scanner.Frame.{Frame}
 use Rattle.std.proofs.lemmas.List.{reverse-append}

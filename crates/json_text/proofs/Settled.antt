@@ -1,16 +1,16 @@
 -- A step is what is settled before the byte, and then the byte itself.
-use Rattle.std.proofs.Common.{◌≡◌, ℕ, zero, suc, Bool, true, false, cond, ◌||◌, ◌==◌, List, [], ◌∷◌, refl, arith, ◌≤◌, ◌+◌, length, map, reverse, Result, Ok, Err, OnOk, IfErr, eqb-true}
+use Rattle.std.proofs.Common.{◌≡◌, ℕ, suc, Bool, true, false, cond, ◌||◌, ◌==◌, List, ◌∷◌, refl, arith, ◌≤◌, length, reverse, Result, Ok, Err, OnOk, IfErr, eqb-true}
 use Rattle.json_text.specs.Byte.{is_white, is_digit, is_exponent}
 use Rattle.json_text.specs.Machine as Machine
 use Rattle.json_text.specs.Machine.{State, Frame, step, stack_of, open_value, close_value, is_fault}
-use Rattle.json_text.specs.Recording.{Notes, settled, settled_notes, moved, moved_notes, noted}
-use Rattle.json_text.specs.Moves.{state_of, state_after, notes_after, IsMove}
+use Rattle.json_text.specs.Recording.{settled, settled_notes, moved, moved_notes}
+use Rattle.json_text.specs.Moves.{state_of, state_after, IsMove}
 use Rattle.json_text.specs.Progress.{machine_of, notes_of, stack_in, IsMoved, HasRead, IsRefused}
 use Rattle.json_text.specs.declared.moves.Move.{Move}
 use Rattle.json_text.specs.declared.scanner.Scanner.{Scanner}
 use Rattle.json_text.specs.declared.refusal.ScanRefusal.{ScanRefusal}
 use Rattle.json_text.specs.declared.state.State as Code
-use Rattle.json_text.specs.declared.state.State.TheVariants.{BeforeValue, AfterOpenList, AfterOpenObject, BeforeName, AfterName, AfterValue, InString, AfterBackslash, InUnit, InLiteral, AfterMinus, AfterNought, InWhole, AfterPoint, InFraction, AfterExponent, AfterSign, InPower}
+use Rattle.json_text.specs.declared.state.State.TheVariants.{BeforeValue, AfterOpenArray, AfterOpenObject, BeforeName, AfterName, AfterValue, InString, AfterBackslash, InUnit, InLiteral, AfterMinus, AfterNought, InWhole, AfterPoint, InFraction, AfterExponent, AfterSign, InPower}
 use Rattle.json_text.specs.declared.state.Spelling.{Spelling}
 use Rattle.json_text.specs.declared.state.Spelling.TheVariants.{Ull, Ll, L, Rue, Ue, E, Alse, Lse, Se}
 use Rattle.json_text.specs.declared.scanner.Frame as Frames
@@ -127,7 +127,7 @@ literal_fits Se stack = omega arith
 
 state_fits : (state : Code.State) (stack : List Frame) → length stack ≤ length (stack_of (state_of state stack))
 state_fits BeforeValue stack = omega arith
-state_fits AfterOpenList stack = omega arith
+state_fits AfterOpenArray stack = omega arith
 state_fits AfterOpenObject stack = omega arith
 state_fits BeforeName stack = omega arith
 state_fits AfterName stack = omega arith

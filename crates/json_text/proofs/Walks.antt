@@ -1,11 +1,12 @@
 -- Going over the items of an array and the members of an object.
-use Rattle.std.proofs.Common.{◌≡◌, ℕ, zero, suc, Bool, true, false, cond, List, [], ◌∷◌, ◌++◌, Option, Some, None, refl, arith, ◌+◌, ◌-◌, ◌≤◌, ◌<◌, length, map, get_or, slice_get, length-append, nat_lt}
-use Rattle.std.proofs.lemmas.Option.{slice_get-map, slice_get_within}
+use Rattle.std.proofs.Common.{◌≡◌, ℕ, zero, suc, Bool, true, false, List, [], ◌∷◌, ◌++◌, Some, refl, arith, ◌+◌, ◌-◌, ◌≤◌, ◌<◌, length, map, get_or, slice_get, length-append, nat_lt}
+use Rattle.std.proofs.lemmas.Option.{slice_get-map}
 use Rattle.std.specs.Option.{option_map}
 use Rattle.json_text.specs.Content.{AreRowsOf}
-use Rattle.json_text.specs.Grammar.{white_bytes, mark_bytes, value_bytes, items_bytes, more_items_bytes, members_bytes, more_members_bytes, text_bytes}
-use Rattle.json_text.specs.Node.{Node, NumberedNode, MemberNode, array_items, more_array_items, object_members, more_object_members, kind_of, node_count, value_length, name_length, value_place, value_nodes, string_text, text_nodes}
-use Rattle.json_text.specs.Placed.{IsPart, IsPlaced, StandsAt, IsQuoted}
+use Rattle.json_text.specs.Grammar.{white_bytes, mark_bytes, value_bytes, members_bytes, more_members_bytes, text_bytes}
+use Rattle.json_text.specs.Node.{Node, array_items, more_array_items, object_members, more_object_members, node_count, value_length, value_place}
+use Rattle.json_text.specs.StringText.{string_text}
+use Rattle.json_text.specs.Placed.{IsPart, StandsAt, IsQuoted}
 use Rattle.json_text.specs.Progress.{shape_of}
 use Rattle.json_text.specs.Recording.{Shape}
 use Rattle.json_text.specs.Shapes.{shape, value_shapes, items_shapes, more_items_shapes, members_shapes, more_members_shapes}
@@ -50,7 +51,7 @@ value_row rows value k place from to p =
 value_next : (rows : List Row) (value : Value) (k place from to : ℕ) → IsPart (map shape_of rows) (value_shapes value k place from to) k → next_of rows k ≡ k + node_count value
 value_next rows value k place from to p = let f = value_row rows value k place from to p in next_is rows k f.row f.is ∙ ap (λ s. s.next) f.shape
 
-some_nodes : (value : Value) → 0 < node_count value
+pub some_nodes : (value : Value) → 0 < node_count value
 some_nodes (literal word) = omega arith
 some_nodes (number n) = omega arith
 some_nodes (string marks) = omega arith

@@ -12,6 +12,7 @@ pub mod Recording
 pub mod Refusal
 pub mod Scanning
 pub mod Shapes
+pub mod StringText
 pub mod Syntax
 pub mod Unescaping
 pub mod Walk

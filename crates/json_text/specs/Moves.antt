@@ -1,12 +1,11 @@
 -- How the scanner's values stand for the machine's.
-use Rattle.std.specs.Prelude.{◌≡◌, ℕ, suc, ◌≤◌, ◌<◌, List, [], ◌∷◌, length, map, reverse, Option, Some, None, Bool, true, false}
+use Rattle.std.specs.Prelude.{◌≡◌, ℕ, suc, List, [], ◌∷◌, Option, Some, None}
 use Rattle.json_text.specs.Machine
 use Rattle.json_text.specs.Machine.{Frame, in_array, in_object, after_open_array, after_value, after_name, in_string, as_name, fault, is_fault, stack_of, step}
 use Rattle.json_text.specs.Recording.{Notes, begin_value, end_value, begin_name, end_name, enter, close, moved, moved_notes, settled, settled_notes}
 use Rattle.json_text.specs.declared.state.State.{State}
-use Rattle.json_text.specs.declared.state.State.TheVariants.{BeforeValue, AfterOpenList, AfterOpenObject, BeforeName, AfterName, AfterValue, InString, AfterBackslash, InUnit, InLiteral, AfterMinus, AfterNought, InWhole, AfterPoint, InFraction, AfterExponent, AfterSign, InPower}
+use Rattle.json_text.specs.declared.state.State.TheVariants.{BeforeValue, AfterOpenArray, AfterOpenObject, BeforeName, AfterName, AfterValue, InString, AfterBackslash, InUnit, InLiteral, AfterMinus, AfterNought, InWhole, AfterPoint, InFraction, AfterExponent, AfterSign, InPower}
 use Rattle.json_text.specs.declared.state.Role.{Role}
-use Rattle.json_text.specs.declared.state.Role.TheVariants as Role
 use Rattle.json_text.specs.declared.state.Spelling.{Spelling}
 use Rattle.json_text.specs.declared.state.Spelling.TheVariants.{Ull, Ll, L, Rue, Ue, E, Alse, Lse, Se}
 use Rattle.json_text.specs.declared.state.Bracket.{Bracket}
@@ -33,7 +32,7 @@ literal_of Se stack = Machine.in_literal 115 (101 ∷ []) stack
 
 abbrev pub state_of : State → List Frame → Machine.State
 state_of BeforeValue stack = Machine.before_value stack
-state_of AfterOpenList stack = Machine.after_open_array stack
+state_of AfterOpenArray stack = Machine.after_open_array stack
 state_of AfterOpenObject stack = Machine.after_open_object stack
 state_of BeforeName stack = Machine.before_name stack
 state_of AfterName stack = Machine.after_name stack
@@ -58,7 +57,8 @@ frame_of Curly = in_object
 -- the innermost array or object is the bracket's, or there is none
 abbrev pub IsInnermost : List Frame → Option Bracket → Type 0
 IsInnermost [] innermost = innermost ≡ None
-IsInnermost (frame ∷ stack) innermost = (bracket : Bracket) × (innermost ≡ Some bracket) × (frame ≡ frame_of bracket)
+IsInnermost (frame ∷ stack) innermost =
+    (bracket : Bracket) × (innermost ≡ Some bracket) × (frame ≡ frame_of bracket)
 
 abbrev pub tail : List Frame → List Frame
 tail [] = []
@@ -100,5 +100,7 @@ settles EndNumber at n = end_value at n
 
 -- The settling is what comes before the byte.
 pub record IsSettling (before : State) (byte : ℕ) (settling : Settling) : Type 0 where
-  pub state : (stack : List Frame) → settled (state_of before stack) byte ≡ settled_to before settling stack
-  pub notes : (stack : List Frame) (at : ℕ) (n : Notes) → settled_notes (state_of before stack) byte at n ≡ settles settling at n
+  pub state : (stack : List Frame)
+      → settled (state_of before stack) byte ≡ settled_to before settling stack
+  pub notes : (stack : List Frame) (at : ℕ) (n : Notes)
+      → settled_notes (state_of before stack) byte at n ≡ settles settling at n

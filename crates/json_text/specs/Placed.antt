@@ -29,7 +29,8 @@ IsNamed bytes zero to = Unit {0}
 IsNamed bytes (suc quote) to = (marks : List Mark) × IsQuoted bytes marks quote to
 
 -- The node has the number, and stands at its place.
-pub record IsPlaced (nodes : List Node) (shapes : List Shape) (bytes : List ℕ) (number : ℕ) (node : Node) : Type 0 where
+pub record IsPlaced (nodes : List Node) (shapes : List Shape) (bytes : List ℕ)
+    (number : ℕ) (node : Node) : Type 0 where
   pub name_from : ℕ
   pub name_to : ℕ
   pub within : IsPart nodes (value_nodes node.value node.place) number

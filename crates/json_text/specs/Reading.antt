@@ -9,6 +9,7 @@ use Rattle.json_text.specs.declared.scanner.Scanner.{Scanner}
 pub record IsReading (s : Scanner) (bytes : List ℕ) (at : ℕ) : Type 0 where
   pub state : machine_of s ≡ run start (take at bytes)
   pub stays : StaysWithin greatest_depth start (take at bytes)
-  pub notes : recorded (machine_of s) (notes_of s) at (drop at bytes) ≡ recorded start no_notes 0 bytes
+  pub notes : recorded (machine_of s) (notes_of s) at (drop at bytes)
+      ≡ recorded start no_notes 0 bytes
   pub fits : length (stack_of (machine_of s)) ≤ greatest_depth
   pub rows : length s.rows.items ≤ at

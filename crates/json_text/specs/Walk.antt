@@ -1,6 +1,7 @@
 -- Going from node to node over the rows of a text.
-use Rattle.std.specs.Prelude.{◌≡◌, ℕ, zero, suc, ◌-◌, ◌<◌, ◌≤◌, List, [], ◌∷◌, length, Option, Some, None, cond, nat_lt, slice_get}
-use Rattle.json_text.specs.Node.{MemberNode, string_text}
+use Rattle.std.specs.Prelude.{◌≡◌, ℕ, zero, suc, ◌-◌, ◌<◌, List, [], ◌∷◌, length, Some, cond, nat_lt, slice_get}
+use Rattle.json_text.specs.Node.{MemberNode}
+use Rattle.json_text.specs.StringText.{string_text}
 use Rattle.json_text.specs.Placed.{IsQuoted}
 use Rattle.json_text.specs.Syntax.{Mark}
 use Rattle.json_text.specs.declared.row.Row.{Row}
@@ -14,7 +15,8 @@ next_of (row ∷ rows) (suc node) = next_of rows node
 -- the nodes from one on that are neither within one another nor past the end, so many at most
 abbrev pub walk : List Row → ℕ → ℕ → ℕ → List ℕ
 walk rows zero node last = []
-walk rows (suc most) node last = cond (nat_lt node last) (node ∷ walk rows most (next_of rows node) last) []
+walk rows (suc most) node last =
+    cond (nat_lt node last) (node ∷ walk rows most (next_of rows node) last) []
 
 -- Each node's next one comes behind it.
 abbrev pub Rises : List Row → Type 0
@@ -33,4 +35,5 @@ pub record HasNameAt (rows : List Row) (bytes : List ℕ) (node : ℕ) (name : L
 abbrev pub AreMembers : List Row → List ℕ → List MemberNode → ℕ → ℕ → Type 0
 AreMembers rows bytes [] node last = node ≡ last
 AreMembers rows bytes (member ∷ members) node last =
-    (member.number ≡ node) × (node < last) × HasNameAt rows bytes node member.name × AreMembers rows bytes members (next_of rows node) last
+    (member.number ≡ node) × (node < last) × HasNameAt rows bytes node member.name
+    × AreMembers rows bytes members (next_of rows node) last

@@ -1,4 +1,4 @@
-//! The bytes that the grammar of JSON names.
+// The bytes that the grammar of JSON names.
 
 ghost use Rattle.std.specs.Prelude.{◌≡◌};
 ghost use Rattle.json_text.specs.Byte;

@@ -1,4 +1,4 @@
-//! The texts that can't be lent from the scanned text, since an escape stands in them.
+// The texts that can't be lent from the scanned text, since an escape stands in them.
 
 ghost use Rattle.std.specs.Prelude.{◌≡◌, ◌<◌, ◌∷◌, [], ◌++◌, get_or, length, string_bytes, OnOk};
 ghost use Rattle.std.specs.Option.{option_copied, option_map};

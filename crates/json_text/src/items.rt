@@ -1,4 +1,4 @@
-//! The items of an array.
+// The items of an array.
 
 ghost use Rattle.std.specs.Prelude.{◌≡◌, ◌-◌, ◌≤◌, length};
 ghost use Rattle.json_text.specs.Walk.{Rises, walk};

@@ -1,11 +1,12 @@
-//! A scanned text, and what stands in it.
+// A scanned text, and what stands in it.
 
 ghost use Rattle.std.specs.Prelude.{◌≡◌, ℕ, ◌^◌, ◌<◌, List, length, map, IfErr, IfOk, IsOkUnless};
 ghost use Rattle.json_text.specs.Answer.{IsRefusal, IsRefusedWith};
 ghost use Rattle.json_text.specs.Content.{AreCopied, AreRowsOf};
 ghost use Rattle.json_text.specs.Grammar.{IsJsonWithin, text_bytes};
 ghost use Rattle.json_text.specs.Machine as Machine;
-ghost use Rattle.json_text.specs.Node.{Node, HasArray, HasNode, HasNumber, HasObject, HasWord, IsFirstNamed, IsNode, array_items, kind_of, number_text, object_members, string_text};
+ghost use Rattle.json_text.specs.Node.{Node, HasArray, HasNode, HasNumber, HasObject, HasString, IsFirstNamed, IsNode, array_items, kind_of, number_text, object_members};
+ghost use Rattle.json_text.specs.StringText.{string_text};
 ghost use Rattle.json_text.specs.Progress.{notes_of};
 ghost use Rattle.json_text.specs.Recording.{no_notes, recorded};
 ghost use Rattle.json_text.specs.Refusal.{IsSyntaxFault, IsTooDeep, greatest_depth};
@@ -93,7 +94,8 @@ impl<'a> Model for JsonText<'a> {
 
     ghost view = { λ json. json.text.now };
 
-    ghost invariant = { λ json. IsContent json.text.now json.rows.items json.strings.texts json.strings.names };
+    ghost invariant = { λ json.
+        IsContent json.text.now json.rows.items json.strings.texts json.strings.names };
 }
 
 impl<'a> JsonText<'a> {
@@ -108,7 +110,8 @@ impl<'a> JsonText<'a> {
         ensures refused { IfErr result (IsRefusal text.now) }
 
         // Each answer comes where it is true, but for want of memory.
-        ensures accepts { IsJsonWithin greatest_depth text.now → IsOkUnless result ScanRefusal.NoMemory }
+        ensures accepts { IsJsonWithin greatest_depth text.now
+            → IsOkUnless result ScanRefusal.NoMemory }
         ensures syntax { (at : ℕ) → IsSyntaxFault text.now at
             → IsRefusedWith result (ScanRefusal.Syntax at) }
         ensures depth { (at : ℕ) → IsTooDeep text.now at
@@ -190,7 +193,7 @@ impl<'a> JsonText<'a> {
 
     /// A string's text, with its escapes read. Half a surrogate pair is read as U+FFFD.
     pub fn text_of(&self, node: u32) -> &str
-        requires { HasWord self.now node }
+        requires { HasString self.now node }
         ensures { (place : ℕ) (marks : List Mark)
             → IsNode self.now node (record { place = place; value = string marks })
             → result.now ≡ string_text marks }
@@ -208,6 +211,6 @@ impl<'a> JsonText<'a> {
             → result.now ≡ number_text n }
     {
         let row = self.rows[node as usize];
-        strings::figures(self.text, row.place as usize, row.end as usize)
+        strings::number_text(self.text, row.place as usize, row.end as usize)
     }
 }

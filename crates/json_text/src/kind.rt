@@ -1,4 +1,4 @@
-//! What a value is.
+// What a value is.
 
 /// What a value of a JSON text is.
 #[derive(Clone, Copy, Debug, PartialEq, Eq)]
@@ -7,9 +7,7 @@ pub enum JsonKind {
     False,
     True,
     Number,
-    /// A string.
-    Word,
-    /// An array.
-    List,
+    String,
+    Array,
     Object,
 }

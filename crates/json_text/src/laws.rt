@@ -1,8 +1,14 @@
+// Laws of the definitions alone: each function has an empty body, and its contract is the law.
+
+ghost use Rattle.json_text.specs.Grammar.{TextsAreUnambiguous};
 ghost use Rattle.json_text.specs.Machine.{MachineAcceptsTheGrammar, MachineAcceptsWithin, PrefixIsAlive, StackIsTheDepth};
 ghost use Rattle.json_text.specs.Node.{ItemsAreNodes, MembersAreNodes};
 ghost use Rattle.json_text.specs.Scanning.{DepthIsFound, FaultIsFound};
 
-// Laws of the definitions alone: each function has an empty body, and its contract is the law.
+/// No bytes are spelled by two trees of the grammar.
+pub fn texts_are_unambiguous()
+    ensures { TextsAreUnambiguous }
+{}
 
 /// The machine ends just on the JSON texts.
 pub fn machine_accepts_the_grammar()

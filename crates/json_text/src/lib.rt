@@ -14,8 +14,6 @@ mod row;
 mod scanner;
 mod state;
 mod strings;
-#[cfg(test)]
-mod tests;
 mod unescape;
 
 pub use items::JsonItems;
@@ -24,5 +22,6 @@ pub use kind::JsonKind;
 pub use laws::{
     depth_is_found, fault_is_found, items_are_nodes, machine_accepts_the_grammar,
     machine_accepts_within, members_are_nodes, prefix_is_alive, stack_is_the_depth,
+    texts_are_unambiguous,
 };
 pub use refusal::ScanRefusal;

@@ -1,4 +1,4 @@
-//! The members of an object.
+// The members of an object.
 
 ghost use Rattle.std.specs.Prelude.{◌≡◌, ℕ, ◌<◌, ◌≤◌, List, None, Some, get_or, length, slice_get};
 ghost use Rattle.json_text.specs.Content.{HasName};
@@ -24,7 +24,8 @@ pub fn first_named(
     requires count { length names.now ≡ length rows.now }
     requires names { (k : ℕ) (row : Row) → k < length rows.now → slice_get rows.now k ≡ Some row
         → HasName text.now row (get_or names.now k None) }
-    requires members { (members : List MemberNode) × AreMembers rows.now text.now members first end }
+    requires members { (members : List MemberNode)
+        × AreMembers rows.now text.now members first end }
     ensures { (members : List MemberNode) → AreMembers rows.now text.now members first end
         → IsFirstNamed members name.now result }
 {

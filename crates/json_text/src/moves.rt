@@ -1,4 +1,4 @@
-//! What a byte means after what was read last. Nothing is taken or kept here.
+// What a byte means after what was read last. Nothing is taken or kept here.
 
 ghost use Rattle.std.specs.Prelude.{◌≡◌, List, [], ◌∷◌, ◌==◌, if◌then◌else◌};
 ghost use Rattle.json_text.specs.Machine as Machine;
@@ -39,7 +39,7 @@ pub fn settling_of(state: State, byte: u8) -> Settling
     ensures { IsSettling state byte result }
 {
     match state {
-        State::AfterOpenList => {
+        State::AfterOpenArray => {
             if is_white(byte) || byte == b']' {
                 Settling::Nothing
             } else {
@@ -98,10 +98,10 @@ fn before_value(byte: u8) -> Move
         return Move::Begin(State::AfterMinus, JsonKind::Number);
     }
     if byte == b'"' {
-        return Move::Begin(State::InString(Role::Value), JsonKind::Word);
+        return Move::Begin(State::InString(Role::Value), JsonKind::String);
     }
     if byte == b'[' {
-        return Move::Begin(State::AfterOpenList, JsonKind::List);
+        return Move::Begin(State::AfterOpenArray, JsonKind::Array);
     }
     if byte == b'{' {
         return Move::Begin(State::AfterOpenObject, JsonKind::Object);
@@ -121,11 +121,12 @@ fn before_value(byte: u8) -> Move
     Move::Fault
 }
 
-fn after_open_list(byte: u8) -> Move
-    ensures { (stack : List Machine.Frame) → IsMove (Machine.after_open_array stack) stack byte result }
+fn after_open_array(byte: u8) -> Move
+    ensures { (stack : List Machine.Frame)
+        → IsMove (Machine.after_open_array stack) stack byte result }
 {
     if is_white(byte) {
-        return Move::To(State::AfterOpenList);
+        return Move::To(State::AfterOpenArray);
     }
     if byte == b']' {
         return Move::To(State::AfterValue);
@@ -134,7 +135,8 @@ fn after_open_list(byte: u8) -> Move
 }
 
 fn after_open_object(byte: u8) -> Move
-    ensures { (stack : List Machine.Frame) → IsMove (Machine.after_open_object stack) stack byte result }
+    ensures { (stack : List Machine.Frame)
+        → IsMove (Machine.after_open_object stack) stack byte result }
 {
     if is_white(byte) {
         return Move::To(State::AfterOpenObject);
@@ -170,7 +172,9 @@ fn after_name(byte: u8) -> Move
 }
 
 fn after_item(byte: u8) -> Move
-    ensures { (stack : List Machine.Frame) → IsMove (Machine.after_value (Machine.in_array ∷ stack)) (Machine.in_array ∷ stack) byte result }
+    ensures { (stack : List Machine.Frame)
+        → IsMove (Machine.after_value (Machine.in_array ∷ stack)) (Machine.in_array ∷ stack)
+        byte result }
 {
     if is_white(byte) {
         return Move::To(State::AfterValue);
@@ -185,7 +189,9 @@ fn after_item(byte: u8) -> Move
 }
 
 fn after_member(byte: u8) -> Move
-    ensures { (stack : List Machine.Frame) → IsMove (Machine.after_value (Machine.in_object ∷ stack)) (Machine.in_object ∷ stack) byte result }
+    ensures { (stack : List Machine.Frame)
+        → IsMove (Machine.after_value (Machine.in_object ∷ stack)) (Machine.in_object ∷ stack)
+        byte result }
 {
     if is_white(byte) {
         return Move::To(State::AfterValue);
@@ -209,7 +215,9 @@ fn after_root(byte: u8) -> Move
 }
 
 fn after_part(bracket: Bracket, byte: u8) -> Move
-    ensures { (stack : List Machine.Frame) → IsMove (Machine.after_value (frame_of bracket ∷ stack)) (frame_of bracket ∷ stack) byte result }
+    ensures { (stack : List Machine.Frame)
+        → IsMove (Machine.after_value (frame_of bracket ∷ stack)) (frame_of bracket ∷ stack)
+        byte result }
 {
     match bracket {
         Bracket::Square => after_item(byte),
@@ -218,7 +226,8 @@ fn after_part(bracket: Bracket, byte: u8) -> Move
 }
 
 fn after_value(innermost: Option<Bracket>, byte: u8) -> Move
-    ensures { (stack : List Machine.Frame) → IsInnermost stack innermost → IsMove (Machine.after_value stack) stack byte result }
+    ensures { (stack : List Machine.Frame) → IsInnermost stack innermost
+        → IsMove (Machine.after_value stack) stack byte result }
 {
     match innermost {
         None => after_root(byte),
@@ -227,7 +236,8 @@ fn after_value(innermost: Option<Bracket>, byte: u8) -> Move
 }
 
 fn in_string(role: Role, byte: u8) -> Move
-    ensures { (stack : List Machine.Frame) → IsMove (Machine.in_string (role_of role) stack) stack byte result }
+    ensures { (stack : List Machine.Frame)
+        → IsMove (Machine.in_string (role_of role) stack) stack byte result }
 {
     if is_plain(byte) {
         return Move::To(State::InString(role));
@@ -245,7 +255,8 @@ fn in_string(role: Role, byte: u8) -> Move
 }
 
 fn after_backslash(role: Role, byte: u8) -> Move
-    ensures { (stack : List Machine.Frame) → IsMove (Machine.after_backslash (role_of role) stack) stack byte result }
+    ensures { (stack : List Machine.Frame)
+        → IsMove (Machine.after_backslash (role_of role) stack) stack byte result }
 {
     if is_escape(byte) {
         return Move::To(State::InString(role));
@@ -257,7 +268,8 @@ fn after_backslash(role: Role, byte: u8) -> Move
 }
 
 fn in_unit(more: u8, role: Role, byte: u8) -> Move
-    ensures { (stack : List Machine.Frame) → IsMove (Machine.in_unit more (role_of role) stack) stack byte result }
+    ensures { (stack : List Machine.Frame)
+        → IsMove (Machine.in_unit more (role_of role) stack) stack byte result }
 {
     if !is_hex_digit(byte) {
         return Move::Fault;
@@ -318,7 +330,8 @@ fn after_minus(byte: u8) -> Move
 }
 
 fn after_nought(innermost: Option<Bracket>, byte: u8) -> Move
-    ensures { (stack : List Machine.Frame) → IsInnermost stack innermost → IsMove (Machine.after_nought stack) stack byte result }
+    ensures { (stack : List Machine.Frame) → IsInnermost stack innermost
+        → IsMove (Machine.after_nought stack) stack byte result }
 {
     if byte == b'.' {
         return Move::To(State::AfterPoint);
@@ -330,7 +343,8 @@ fn after_nought(innermost: Option<Bracket>, byte: u8) -> Move
 }
 
 fn in_whole(innermost: Option<Bracket>, byte: u8) -> Move
-    ensures { (stack : List Machine.Frame) → IsInnermost stack innermost → IsMove (Machine.in_whole stack) stack byte result }
+    ensures { (stack : List Machine.Frame) → IsInnermost stack innermost
+        → IsMove (Machine.in_whole stack) stack byte result }
 {
     if is_digit(byte) {
         return Move::To(State::InWhole);
@@ -354,7 +368,8 @@ fn after_point(byte: u8) -> Move
 }
 
 fn in_fraction(innermost: Option<Bracket>, byte: u8) -> Move
-    ensures { (stack : List Machine.Frame) → IsInnermost stack innermost → IsMove (Machine.in_fraction stack) stack byte result }
+    ensures { (stack : List Machine.Frame) → IsInnermost stack innermost
+        → IsMove (Machine.in_fraction stack) stack byte result }
 {
     if is_digit(byte) {
         return Move::To(State::InFraction);
@@ -366,7 +381,8 @@ fn in_fraction(innermost: Option<Bracket>, byte: u8) -> Move
 }
 
 fn after_exponent(byte: u8) -> Move
-    ensures { (stack : List Machine.Frame) → IsMove (Machine.after_exponent stack) stack byte result }
+    ensures { (stack : List Machine.Frame)
+        → IsMove (Machine.after_exponent stack) stack byte result }
 {
     if is_digit(byte) {
         return Move::To(State::InPower);
@@ -387,7 +403,8 @@ fn after_sign(byte: u8) -> Move
 }
 
 fn in_power(innermost: Option<Bracket>, byte: u8) -> Move
-    ensures { (stack : List Machine.Frame) → IsInnermost stack innermost → IsMove (Machine.in_power stack) stack byte result }
+    ensures { (stack : List Machine.Frame) → IsInnermost stack innermost
+        → IsMove (Machine.in_power stack) stack byte result }
 {
     if is_digit(byte) {
         return Move::To(State::InPower);
@@ -397,11 +414,12 @@ fn in_power(innermost: Option<Bracket>, byte: u8) -> Move
 
 /// What the byte does, where nothing is left to settle.
 pub fn move_of(state: State, innermost: Option<Bracket>, byte: u8) -> Move
-    ensures { (stack : List Machine.Frame) → IsInnermost stack innermost → IsMove (state_of state stack) stack byte result }
+    ensures { (stack : List Machine.Frame) → IsInnermost stack innermost
+        → IsMove (state_of state stack) stack byte result }
 {
     match state {
         State::BeforeValue => before_value(byte),
-        State::AfterOpenList => after_open_list(byte),
+        State::AfterOpenArray => after_open_array(byte),
         State::AfterOpenObject => after_open_object(byte),
         State::BeforeName => before_name(byte),
         State::AfterName => after_name(byte),

@@ -1,4 +1,4 @@
-//! Why a text is refused.
+// Why a text is refused.
 
 use flex_model::NoMemory;
 use std::alloc::{AllocError, AllocFailed};

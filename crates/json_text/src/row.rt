@@ -1,4 +1,4 @@
-//! What is kept of a value.
+// What is kept of a value.
 
 use crate::kind::JsonKind;
 

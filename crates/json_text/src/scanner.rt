@@ -1,4 +1,4 @@
-//! Reads a text byte by byte, and keeps a row for each of its values.
+// Reads a text byte by byte, and keeps a row for each of its values.
 
 ghost use Rattle.std.specs.Prelude.{◌≡◌, ℕ, suc, ◌+◌, ◌^◌, ◌≤◌, ◌<◌, List, ◌∷◌, length, vec_len, OnOk, IfErr};
 ghost use Rattle.json_text.specs.Machine as Machine;
@@ -85,7 +85,8 @@ impl Scanner {
     /// The array or object that was opened last has an item or a member.
     fn enter(&mut self, bracket: Bracket) -> Result<(), ScanRefusal>
         requires { vec_len self.old.rows < 2 ^ 32 }
-        ensures frames { OnOk result (stack_in self.new.frames.items ≡ frame_of bracket ∷ stack_in self.old.frames.items) }
+        ensures frames { OnOk result
+            (stack_in self.new.frames.items ≡ frame_of bracket ∷ stack_in self.old.frames.items) }
         ensures notes { OnOk result (notes_of self.new ≡ enter (notes_of self.old)) }
         ensures rows { vec_len self.new.rows ≡ vec_len self.old.rows }
         ensures memory { IfErr result (λ e. e ≡ ScanRefusal.NoMemory) }
@@ -98,7 +99,8 @@ impl Scanner {
     /// The innermost array or object is closed.
     fn close(&mut self)
         requires { vec_len self.old.rows < 2 ^ 32 }
-        ensures state { machine_of self.new ≡ state_after Move.Close (stack_in self.old.frames.items) }
+        ensures state { machine_of self.new
+            ≡ state_after Move.Close (stack_in self.old.frames.items) }
         ensures notes { notes_of self.new ≡ close (notes_of self.old) }
         ensures rows { vec_len self.new.rows ≡ vec_len self.old.rows }
         ensures frames { vec_len self.new.frames ≤ vec_len self.old.frames }
@@ -140,11 +142,13 @@ impl Scanner {
     /// Goes on to the state, unless it opens one array or object too many.
     fn go(&mut self, at: u32, state: State) -> Result<(), ScanRefusal>
         requires { vec_len self.old.frames ≤ greatest_depth }
-        ensures state { OnOk result (machine_of self.new ≡ state_of state (stack_in self.old.frames.items)) }
+        ensures state { OnOk result
+            (machine_of self.new ≡ state_of state (stack_in self.old.frames.items)) }
         ensures notes { OnOk result (notes_of self.new ≡ notes_of self.old) }
         ensures fits { OnOk result (length (stack_of (machine_of self.new)) ≤ greatest_depth) }
         ensures rows { OnOk result (vec_len self.new.rows ≡ vec_len self.old.rows) }
-        ensures deep { IfErr result (IsRefused at (state_of state (stack_in self.old.frames.items))) }
+        ensures deep { IfErr result
+            (IsRefused at (state_of state (stack_in self.old.frames.items))) }
     {
         if levels(state, self.frames.len()) > GREATEST_DEPTH {
             return Err(ScanRefusal::Depth { at: u64::from(at) });
@@ -250,7 +254,7 @@ fn levels(state: State, apart: usize) -> usize
         → length (stack_of (state_of state stack)) ≡ result }
 {
     match state {
-        State::AfterOpenList | State::AfterOpenObject => apart + 1,
+        State::AfterOpenArray | State::AfterOpenObject => apart + 1,
         _ => apart,
     }
 }
@@ -258,7 +262,8 @@ fn levels(state: State, apart: usize) -> usize
 /// What comes first in an array or an object.
 fn first_state(bracket: Bracket) -> State
     ensures { (stack : List Machine.Frame) (before : State)
-        → state_of result (frame_of bracket ∷ stack) ≡ settled_to before (Settling.Enter bracket) stack }
+        → state_of result (frame_of bracket ∷ stack)
+        ≡ settled_to before (Settling.Enter bracket) stack }
 {
     match bracket {
         Bracket::Square => State::BeforeValue,

@@ -1,4 +1,4 @@
-//! What the scanner has read last, and so what may come.
+// What the scanner has read last, and so what may come.
 
 /// What a string is: a value, or the name of a member.
 #[derive(Clone, Copy)]
@@ -26,7 +26,7 @@ pub enum Spelling {
 #[derive(Clone, Copy)]
 pub enum State {
     BeforeValue,
-    AfterOpenList,
+    AfterOpenArray,
     AfterOpenObject,
     BeforeName,
     AfterName,

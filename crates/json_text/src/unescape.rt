@@ -1,8 +1,8 @@
-//! Reads the escapes of a string.
+// Reads the escapes of a string.
 
 ghost use Rattle.std.specs.Prelude.{◌≡◌, ◌≢◌, ℕ, ◌+◌, ◌*◌, ◌-◌, ◌^◌, ◌<◌, ◌≤◌, ◌∷◌, [], drop, encode_utf8, length, string_bytes, slice_index, unwrap_or, IfOk, IfNone, IfSome};
 ghost use Rattle.std.specs.Option.{option_map};
-ghost use Rattle.json_text.specs.Node as Node;
+ghost use Rattle.json_text.specs.StringText as StringText;
 ghost use Rattle.json_text.specs.Unescaping.{HasMarks, IsLowAt, LacksLow, Passes, ReadsAs, unit_at};
 
 use std::alloc::{AllocError, Global};
@@ -14,7 +14,7 @@ struct Escape {
     end: usize,
 }
 
-/// The place of the first backslash from there on, or the end.
+/// The index of the first backslash from there on, or of the end.
 fn plain_end(raw: &[u8], from: usize) -> usize
     requires { from ≤ length raw.now }
     ensures after { from ≤ result }
@@ -31,7 +31,7 @@ fn plain_end(raw: &[u8], from: usize) -> usize
 }
 
 fn hex_value(digit: u8) -> u32
-    ensures value { result ≡ Node.hex_value digit }
+    ensures value { result ≡ StringText.hex_value digit }
     ensures small { result < 256 }
 {
     if digit >= b'a' {
@@ -56,14 +56,14 @@ fn unit(raw: &[u8], at: usize) -> u32
 
 /// The first half of a pair.
 fn is_high(unit: u32) -> bool
-    ensures { result ≡ Node.is_high unit }
+    ensures { result ≡ StringText.is_high unit }
 {
     55296 <= unit && unit < 56320
 }
 
 /// The second half of a pair.
 fn is_low(unit: u32) -> bool
-    ensures { result ≡ Node.is_low unit }
+    ensures { result ≡ StringText.is_low unit }
 {
     56320 <= unit && unit < 57344
 }
@@ -71,7 +71,7 @@ fn is_low(unit: u32) -> bool
 /// The character of a unit that stands alone: half a pair is read as U+FFFD.
 fn alone(unit: u32) -> char
     requires { unit < 2 ^ 16 }
-    ensures { result ≡ Node.alone unit }
+    ensures { result ≡ StringText.alone unit }
 {
     char::from_u32(unit).unwrap_or(char::REPLACEMENT_CHARACTER)
 }
@@ -81,7 +81,7 @@ fn paired(high: u32, low: u32) -> char
     requires high_end { high < 56320 }
     requires low { 56320 ≤ low }
     requires low_end { low < 57344 }
-    ensures { result ≡ Node.paired high low }
+    ensures { result ≡ StringText.paired high low }
 {
     let code = 65536 + (high - 55296) * 1024 + (low - 56320);
     char::from_u32(code).unwrap_or(char::REPLACEMENT_CHARACTER)
@@ -89,7 +89,7 @@ fn paired(high: u32, low: u32) -> char
 
 /// What a letter stands for after a backslash.
 fn escaped_byte(letter: u8) -> u8
-    ensures { result ≡ Node.escaped_byte letter }
+    ensures { result ≡ StringText.escaped_byte letter }
 {
     if letter == b'b' {
         return 8;

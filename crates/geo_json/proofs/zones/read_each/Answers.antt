@@ -17,8 +17,8 @@ read_feature-requires c =
 pub returns-in_err-zone-clause-faults : goal.returns-in_err-zone-clause-faults
 returns-in_err-zone-clause-faults c = λ j of.
     let p = err_from_is_err_and c.from_residual.result c.from_residual.ensures.1 in
-    told_err (flat_map (feature_checks j) (j.items c.args.list)) c.from_residual.result c.in_err-zone.field-0.0 (p.1 ∙ ap Err p.2)
-    (stopped (feature_checks j) (feature_of c.args.text.now j) c.loop-feature.yielded (j.items c.args.list) c.loop-feature.feature-iterator c.next.new.self (map feature_in c.loop-feature.zones)
+    told_err (flat_map (feature_checks j) (j.items c.args.array)) c.from_residual.result c.in_err-zone.field-0.0 (p.1 ∙ ap Err p.2)
+    (stopped (feature_checks j) (feature_of c.args.text.now j) c.loop-feature.yielded (j.items c.args.array) c.loop-feature.feature-iterator c.next.new.self (map feature_in c.loop-feature.zones)
     c.in-Some.feature c.in_err-zone.field-0.0 (c.loop-feature.invariant.read j of) (c.loop-feature.invariant.items j of) c.in-Some.ensures.steps (c.in_err-zone.ensures.faults j of))
 
 pub loop-feature-preserved : goal.loop-feature-preserved
@@ -38,7 +38,7 @@ loop-feature-preserved c =
         omega (arith, fits),
       );
       text = c.in_ok-zone.ensures.same ∙ c.loop-feature.invariant.text;
-      items = λ j of. next_read (j.items c.args.list) c.loop-feature.yielded c.loop-feature.feature-iterator node c.next.new.self (c.loop-feature.invariant.items j of) c.in-Some.ensures.steps;
+      items = λ j of. next_read (j.items c.args.array) c.loop-feature.yielded c.loop-feature.feature-iterator node c.next.new.self (c.loop-feature.invariant.items j of) c.in-Some.ensures.steps;
       read = λ j of.
           subst (AreRead (feature_checks j) (feature_of c.args.text.now j) (c.loop-feature.yielded ++ node ∷ [])) (sym (ap (map feature_in) c.in_ok-push.ensures.ok ∙ map-append feature_in zones (zone ∷ [])))
           (one_more (feature_checks j) (feature_of c.args.text.now j) c.loop-feature.yielded (map feature_in zones) node (feature_in zone) (c.loop-feature.invariant.read j of)

@@ -10,6 +10,6 @@ abbrev pub invariant-loop-feature : goal.invariant-loop-feature
 invariant-loop-feature l = record {
   there : (least : ℕ) × AreThere l.json least l.feature-iterator × (length l.zones < least) × (least ≤ 2 ^ 32);
   text : l.lines ≡ l.text;
-  items : (j : Json) → IsJsonOf l.json j → j.items l.list ≡ l.yielded ++ l.feature-iterator;
+  items : (j : Json) → IsJsonOf l.json j → j.items l.array ≡ l.yielded ++ l.feature-iterator;
   read : (j : Json) → IsJsonOf l.json j → AreRead (feature_checks j) (feature_of l.text j) l.yielded (map feature_in l.zones);
 }

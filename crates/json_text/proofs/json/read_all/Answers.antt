@@ -1,6 +1,6 @@
-use Rattle.std.proofs.Common.{refl, arith, ap, sym, ◌∙◌, add-one}
+use Rattle.std.proofs.Common.{refl, sym, ◌∙◌, add-one}
 use Rattle.std.proofs.lemmas.Result.{err_from_is_err_and}
-use Rattle.json_text.proofs.ReadsOn.{is_cut_off, is_json, notes_at_end, reads_on, refuses}
+use Rattle.json_text.proofs.ReadsOn.{is_cut_off, is_json, reads_on, refuses}
 use Rattle.json_text.proofs.Settled.{err_passed}
 use Rattle.json_text.proofs.json.read_all.Goals as goal
 

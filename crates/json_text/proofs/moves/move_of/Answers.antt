@@ -3,8 +3,8 @@ use Rattle.json_text.proofs.moves.move_of.Goals as goal
 pub returns-in-BeforeValue : goal.returns-in-BeforeValue
 returns-in-BeforeValue c = λ stack _. rw c.in-BeforeValue.is (c.before_value.ensures stack)
 
-pub returns-in-AfterOpenList : goal.returns-in-AfterOpenList
-returns-in-AfterOpenList c = λ stack _. rw c.in-AfterOpenList.is (c.after_open_list.ensures stack)
+pub returns-in-AfterOpenArray : goal.returns-in-AfterOpenArray
+returns-in-AfterOpenArray c = λ stack _. rw c.in-AfterOpenArray.is (c.after_open_array.ensures stack)
 
 pub returns-in-AfterOpenObject : goal.returns-in-AfterOpenObject
 returns-in-AfterOpenObject c = λ stack _. rw c.in-AfterOpenObject.is (c.after_open_object.ensures stack)

@@ -1,5 +1,5 @@
 use Rattle.std.proofs.Common.{arith, rules, sym, ◌∙◌, ap, ◌≡◌, ◌-◌, ◌+◌}
-use Rattle.json_text.specs.Node.{alone, is_high, paired}
+use Rattle.json_text.specs.StringText.{alone, is_high, paired}
 use Rattle.json_text.proofs.Marks.{escape_passes, half_passes, letter_within, low_or_other_passes, low_small, pair_passes, unit_facts}
 use Rattle.json_text.proofs.unescape.escape_at.Goals as goal
 

@@ -1,5 +1,5 @@
-use Rattle.std.proofs.Common.{arith, rules, string_bytes, drop, length, subst, sym, ◌≤◌}
-use Rattle.json_text.specs.Unescaping.{HasMarks, IsUnescaping}
+use Rattle.std.proofs.Common.{rules, string_bytes, drop, length, subst, sym, ◌≤◌}
+use Rattle.json_text.specs.Unescaping.{HasMarks}
 use Rattle.json_text.proofs.Marks.{escape_on, passes_all, plain_on, starts}
 use Rattle.json_text.proofs.unescape.unescape.Goals as goal
 

@@ -1,4 +1,4 @@
-use Rattle.std.proofs.Common.{arith, rules, subst, sym, ap, ◌∙◌, ◌≤◌, ◌+◌, length}
+use Rattle.std.proofs.Common.{arith, rules, subst, sym, ◌≤◌, ◌+◌, length}
 use Rattle.json_text.specs.Content.{AreRowsOf}
 use Rattle.json_text.specs.Node.{object_members}
 use Rattle.json_text.specs.Walk.{AreMembers, Rises}

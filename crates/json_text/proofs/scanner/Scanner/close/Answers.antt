@@ -1,4 +1,4 @@
-use Rattle.std.proofs.Common.{refl, ap, sym, ◌∙◌, arith, length, map, ◌≤◌}
+use Rattle.std.proofs.Common.{refl, sym, arith, length, map, ◌≤◌}
 use Rattle.json_text.proofs.Rows.{change_behind, close_frame, close_none, length_map, write_row}
 use Rattle.json_text.specs.Progress.{shape_of}
 use Rattle.json_text.proofs.scanner.Scanner.close.Goals as goal

@@ -1,4 +1,4 @@
-use Rattle.std.proofs.Common.{◌≡◌, ◌≤◌, length, subst, ap, arith}
+use Rattle.std.proofs.Common.{◌≡◌, length, ap, arith}
 use Rattle.json_text.specs.Machine.{stack_of}
 use Rattle.json_text.specs.Progress.{machine_of, stack_in}
 use Rattle.json_text.specs.Recording.{settled}

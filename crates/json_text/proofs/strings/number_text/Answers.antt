@@ -1,5 +1,5 @@
 use Rattle.json_text.proofs.Quoted.{number_facts}
-use Rattle.json_text.proofs.strings.figures.Goals as goal
+use Rattle.json_text.proofs.strings.number_text.Goals as goal
 
 pub range-requires-clause-start_le_end : goal.range-requires-clause-start_le_end
 range-requires-clause-start_le_end c = (number_facts c.args.text.now c.requires.0 c.args.place c.args.last c.requires.1 c.requires.2).order
