@@ -25,7 +25,7 @@ use Rattle.flexplan.specs.declared.input.Opened.TheVariants.{Accepted, Refused}
 use Rattle.flexplan.specs.declared.input.Opened.TheVariants as opened
 use Rattle.flexplan.specs.declared.status.Status.{Status}
 use Rattle.flexplan.specs.declared.status.Status.TheVariants as status
-use Rattle.flexplan.specs.declared.status.Stop.{Stop}
+use Rattle.flexplan.specs.declared.status.Failure.{Failure}
 use Rattle.flexplan.proofs.Gains.{gains_as, gains_nothing}
 use Rattle.flexplan.proofs.Texts.{completed, print_one}
 
@@ -74,7 +74,7 @@ refused_printed request files s faults (Err Failed) bytes final reply prints =
 refused_printed request files s faults (Err NoMemory) bytes final reply prints = inl prints
 
 -- the faults of a refused input were printed, or their print failed
-pub refused : (request : Request) (told : Option FileMap) (s : Status) (faults : List Fault) (before after : Option (List ℕ)) (printed : Result (Unit {0}) PutError) (end : Result Status Stop)
+pub refused : (request : Request) (told : Option FileMap) (s : Status) (faults : List Fault) (before after : Option (List ℕ)) (printed : Result (Unit {0}) PutError) (end : Result Status Failure)
     → IsFinished s → IfSome told (λ files. IsReply request files s (fault_lines faults ∷ [])) → end ≡ end_of s printed
     → Gains before after (Prints RightText (fault_lines faults) printed) → PrintsRight request told (status_of end) before after
 refused request told s faults before after printed end final known end_is gains =
@@ -82,7 +82,7 @@ refused request told s faults before after printed end final known end_is gains 
     subst (λ e. MayHavePrinted request files (status_of e) bytes) (sym end_is) (refused_printed request files s faults printed bytes final reply prints)))
 
 -- the pieces of an accepted input were printed, or a print of one failed
-pub accepted : (request : Request) (told : Option FileMap) (pieces : List Piece) (before after : Option (List ℕ)) (printed : Result (Unit {0}) PutError) (end : Result Status Stop)
+pub accepted : (request : Request) (told : Option FileMap) (pieces : List Piece) (before after : Option (List ℕ)) (printed : Result (Unit {0}) PutError) (end : Result Status Failure)
     → IfSome told (λ files. IsReply request files status.Done pieces) → end ≡ end_of status.Done printed
     → Gains before after (PrintsAll RightText pieces printed) → PrintsRight request told (status_of end) before after
 accepted request told pieces before after printed end known end_is gains =

@@ -3,10 +3,11 @@ pub mod Boarding
 pub mod Candidate
 pub mod Earliest
 pub mod ErrorLine
+pub mod ExitNumber
+pub mod Failures
 pub mod Faults
 pub mod Input
 pub mod Opened
 pub mod Reply
-pub mod Stops
 pub mod Texts
 pub mod Words

@@ -9,11 +9,11 @@ use Rattle.flexplan.specs.Words.{InputPaths, Request, plan, lint}
 use Rattle.flexplan.specs.Input.{AreTimesAccepted, FindsZone, IsBuilt, IsFeedAccepted, IsNotBuilt, LacksZones, faults_of_feed, faults_of_queries, faults_of_times, feed, feed_folder, queries, times}
 use Rattle.flexplan.specs.Answers.{Piece, fault_lines, answer, RightText}
 use Rattle.flexplan.specs.Texts.{Texts}
-use Rattle.flexplan.specs.Stops.{stop_of_put}
+use Rattle.flexplan.specs.Failures.{failure_of_put}
 use Rattle.flexplan.specs.declared.status.Status.{Status}
 use Rattle.flexplan.specs.declared.status.Status.TheVariants.{Done, Usage, FeedFaulty, TimesFaulty, QueriesFaulty, CertRefused, ReadFault, WriteFault, NoMemory, NotBuilt}
-use Rattle.flexplan.specs.declared.status.Stop.{Stop}
-use Rattle.flexplan.specs.declared.status.Stop.TheVariants as stop
+use Rattle.flexplan.specs.declared.status.Failure.{Failure}
+use Rattle.flexplan.specs.declared.status.Failure.TheVariants as failure
 
 -- an exact answer to each query of the input, in the zone with these bases
 abbrev pub answers_of : FileMap → InputPaths → List ℤ → List Piece
@@ -97,13 +97,13 @@ IsFinished NotBuilt = Unit {0}
 IsFinished _ = ⊥
 
 -- the status by which a command ended
-abbrev pub status_of : Result Status Stop → Status
+abbrev pub status_of : Result Status Failure → Status
 status_of (Ok status) = status
-status_of (Err stop.ReadFault) = ReadFault
-status_of (Err stop.WriteFault) = WriteFault
-status_of (Err stop.NoMemory) = NoMemory
+status_of (Err failure.ReadFault) = ReadFault
+status_of (Err failure.WriteFault) = WriteFault
+status_of (Err failure.NoMemory) = NoMemory
 
 -- how a command ends whose pieces were printed, or whose print failed
-abbrev pub end_of : Status → Result (Unit {0}) PutError → Result Status Stop
+abbrev pub end_of : Status → Result (Unit {0}) PutError → Result Status Failure
 end_of status (Ok _) = Ok status
-end_of status (Err e) = Err (stop_of_put e)
+end_of status (Err e) = Err (failure_of_put e)

@@ -1,5 +1,5 @@
 // What is printed, one put for each piece.
-ghost use Rattle.std.specs.Prelude.{◌≡◌, ◌≤◌, IfOk, IsErrOf};
+ghost use Rattle.std.specs.Prelude.{◌≡◌, ◌≢◌, ◌≤◌, Err, IfOk, IsErrOf};
 ghost use Rattle.flex_io.specs.Outside.{Gains, HasFailed};
 ghost use Rattle.flex_model.specs.SoundQuery.{IsSoundQuery};
 ghost use Rattle.flexplan.specs.Answers.{IsAnswerText, RightText, fault_lines};
@@ -22,6 +22,7 @@ pub fn print_faults<O: Sink>(alloc: Global, faults: &[Fault], out: &mut O) -> Re
     ensures counted { O.faults out.old ≤ O.faults out.new }
     ensures write_fault { IsErrOf result PutError.Failed
         → HasFailed (O.faults out.old) (O.faults out.new) }
+    ensures answered { result ≢ Err PutError.Failed → O.faults out.new ≡ O.faults out.old }
 {
     let text = write_faults(alloc, faults)?;
     out.put(text.as_str().as_bytes())
@@ -57,6 +58,7 @@ fn print_answer<O: Sink>(
     ensures counted { O.faults out.old ≤ O.faults out.new }
     ensures write_fault { IsErrOf result PutError.Failed
         → HasFailed (O.faults out.old) (O.faults out.new) }
+    ensures answered { result ≢ Err PutError.Failed → O.faults out.new ≡ O.faults out.old }
 {
     let text = answer(alloc, input, query)?;
     out.put(text.as_str().as_bytes())
@@ -71,6 +73,7 @@ pub fn print_answers<O: Sink>(alloc: Global, input: &Input, out: &mut O) -> Resu
     ensures counted { O.faults out.old ≤ O.faults out.new }
     ensures write_fault { IsErrOf result PutError.Failed
         → HasFailed (O.faults out.old) (O.faults out.new) }
+    ensures answered { result ≢ Err PutError.Failed → O.faults out.new ≡ O.faults out.old }
 {
     for query in input.queries.as_slice() {
         print_answer(alloc, input, query, out)?;

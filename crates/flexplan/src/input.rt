@@ -1,5 +1,5 @@
 // The input of `plan`: its files, fetched in order and read.
-ghost use Rattle.std.specs.Prelude.{◌≡◌, ◌≤◌, ◌↔◌, All, IfOk, IfSome, IsErrOf, IsTrue};
+ghost use Rattle.std.specs.Prelude.{◌≡◌, ◌≢◌, ◌≤◌, ◌↔◌, All, Err, IfOk, IfSome, IsErrOf, IsTrue};
 ghost use Rattle.flex_io.specs.Outside.{HasFailed};
 ghost use Rattle.flex_model.specs.SoundFeed.{IsSoundFeed};
 ghost use Rattle.flex_model.specs.SoundTimes.{AreSoundTimes};
@@ -73,6 +73,8 @@ fn open_queries<F: Files>(
         × (F.faults files.new ≡ F.faults files.old) }
     ensures read_fault { IsErrOf result LoadError.ReadFault
         → HasFailed (F.faults files.old) (F.faults files.new) }
+    ensures answered { result ≢ Err LoadError.ReadFault
+        → F.faults files.new ≡ F.faults files.old }
 {
     let raw = fetch_file(alloc, files, path, byte_limit(InputFile::Queries))?;
     match read_queries(alloc, &raw, &feed, &times)? {
@@ -109,6 +111,8 @@ fn open_times<F: Files>(
         × (F.faults files.new ≡ F.faults files.old) }
     ensures read_fault { IsErrOf result LoadError.ReadFault
         → HasFailed (F.faults files.old) (F.faults files.new) }
+    ensures answered { result ≢ Err LoadError.ReadFault
+        → F.faults files.new ≡ F.faults files.old }
 {
     match load_times(alloc, files, input.times, &feed)? {
         LoadedTimes::Clean(times, zone) => {
@@ -133,6 +137,8 @@ pub fn open_input<F: Files>(
         × (F.faults files.new ≡ F.faults files.old) }
     ensures read_fault { IsErrOf result LoadError.ReadFault
         → HasFailed (F.faults files.old) (F.faults files.new) }
+    ensures answered { result ≢ Err LoadError.ReadFault
+        → F.faults files.new ≡ F.faults files.old }
 {
     match load(alloc, files, input.feed)? {
         Loaded::Clean(feed) => open_times(alloc, files, input, feed),

@@ -24,7 +24,7 @@ fn main(rt: HostRuntime) -> ExitCode {
         // A word that isn't UTF-8.
         Err(_) => Status::Usage,
     };
-    ExitCode::from(status as u8)
+    ExitCode::from(status.number())
 }
 
 // Runs the words that follow the program's name, over the system's files and streams.

@@ -1,5 +1,5 @@
 // The top call and its stages.
-ghost use Rattle.std.specs.Prelude.{◌≡◌, ◌≢◌, ◌↔◌, ◌⊎◌, Option, None, Some, IfSome, IsSome, IsErrOf};
+ghost use Rattle.std.specs.Prelude.{◌≡◌, ◌≢◌, ◌↔◌, ◌⊎◌, Err, Option, None, Some, IfSome, IsSome, IsErrOf};
 ghost use Rattle.flex_io.specs.Outside.{Gains, HasFailed};
 ghost use Rattle.flexplan.specs.Words.{lint, plan, paths, request, request_of, texts};
 ghost use Rattle.flexplan.specs.Reply.{PrintsRight, IsFinished, status_of, end_of};
@@ -7,19 +7,20 @@ ghost use Rattle.flexplan.specs.ErrorLine.{error_line, IsLineOrNothing};
 
 use crate::answers::{print_answers, print_faults};
 use crate::input::{Opened, open_input};
-use crate::status::{Status, Stop};
+use crate::status::{Failure, Status};
 use crate::words::{Command, Paths, command_of};
 use feed_load::{Loaded, load};
 use flex_io::{Files, PutError, Sink};
 use std::alloc::Global;
 
 // How a command ends after its prints.
-fn ended(status: Status, printed: Result<(), PutError>) -> Result<Status, Stop>
+fn ended(status: Status, printed: Result<(), PutError>) -> Result<Status, Failure>
     requires { IsFinished status }
     ensures end { result ≡ end_of status printed }
     ensures read { status_of result ≢ Status.ReadFault }
     ensures used { status_of result ≢ Status.Usage }
     ensures write { status_of result ≡ Status.WriteFault → IsErrOf printed PutError.Failed }
+    ensures written { status_of result ≢ Status.WriteFault → printed ≢ Err PutError.Failed }
 {
     printed?;
     Ok(status)
@@ -31,7 +32,7 @@ fn perform_plan<F: Files, O: Sink>(
     input: &Paths<'_>,
     files: &mut F,
     out: &mut O,
-) -> Result<Status, Stop>
+) -> Result<Status, Failure>
     ensures printed { PrintsRight (plan (paths input.now)) (F.told files.old) (status_of result)
         (O.contents out.old) (O.contents out.new) }
     ensures silent { status_of result ≡ Status.ReadFault → O.contents out.new ≡ O.contents out.old }
@@ -40,6 +41,10 @@ fn perform_plan<F: Files, O: Sink>(
         → HasFailed (F.faults files.old) (F.faults files.new) }
     ensures write_fault { status_of result ≡ Status.WriteFault
         → HasFailed (O.faults out.old) (O.faults out.new) }
+    ensures answered_read { status_of result ≢ Status.ReadFault
+        → F.faults files.new ≡ F.faults files.old }
+    ensures answered_write { status_of result ≢ Status.WriteFault
+        → O.faults out.new ≡ O.faults out.old }
     ensures used { status_of result ≢ Status.Usage }
 {
     match open_input(alloc, files, input)? {
@@ -57,7 +62,7 @@ fn perform_lint<F: Files, O: Sink>(
     folder: &str,
     files: &mut F,
     out: &mut O,
-) -> Result<Status, Stop>
+) -> Result<Status, Failure>
     ensures printed { PrintsRight (lint folder.now) (F.told files.old) (status_of result)
         (O.contents out.old) (O.contents out.new) }
     ensures silent { status_of result ≡ Status.ReadFault → O.contents out.new ≡ O.contents out.old }
@@ -66,6 +71,10 @@ fn perform_lint<F: Files, O: Sink>(
         → HasFailed (F.faults files.old) (F.faults files.new) }
     ensures write_fault { status_of result ≡ Status.WriteFault
         → HasFailed (O.faults out.old) (O.faults out.new) }
+    ensures answered_read { status_of result ≢ Status.ReadFault
+        → F.faults files.new ≡ F.faults files.old }
+    ensures answered_write { status_of result ≢ Status.WriteFault
+        → O.faults out.new ≡ O.faults out.old }
     ensures used { status_of result ≢ Status.Usage }
 {
     match load(alloc, files, folder)? {
@@ -84,7 +93,7 @@ fn perform<F: Files, O: Sink>(
     command: &Command<'_>,
     files: &mut F,
     out: &mut O,
-) -> Result<Status, Stop>
+) -> Result<Status, Failure>
     ensures printed { PrintsRight (request command.now) (F.told files.old) (status_of result)
         (O.contents out.old) (O.contents out.new) }
     ensures silent { status_of result ≡ Status.ReadFault → O.contents out.new ≡ O.contents out.old }
@@ -93,6 +102,10 @@ fn perform<F: Files, O: Sink>(
         → HasFailed (F.faults files.old) (F.faults files.new) }
     ensures write_fault { status_of result ≡ Status.WriteFault
         → HasFailed (O.faults out.old) (O.faults out.new) }
+    ensures answered_read { status_of result ≢ Status.ReadFault
+        → F.faults files.new ≡ F.faults files.old }
+    ensures answered_write { status_of result ≢ Status.WriteFault
+        → O.faults out.new ≡ O.faults out.old }
     ensures used { status_of result ≢ Status.Usage }
 {
     match command {
@@ -102,14 +115,14 @@ fn perform<F: Files, O: Sink>(
 }
 
 // The status by which a command ended.
-fn status_of(end: Result<Status, Stop>) -> Status
+fn status_of(end: Result<Status, Failure>) -> Status
     ensures { result ≡ status_of end }
 {
     match end {
         Ok(status) => status,
-        Err(Stop::ReadFault) => Status::ReadFault,
-        Err(Stop::WriteFault) => Status::WriteFault,
-        Err(Stop::NoMemory) => Status::NoMemory,
+        Err(Failure::ReadFault) => Status::ReadFault,
+        Err(Failure::WriteFault) => Status::WriteFault,
+        Err(Failure::NoMemory) => Status::NoMemory,
     }
 }
 
@@ -127,6 +140,10 @@ fn answer<F: Files, O: Sink>(alloc: Global, words: &[&str], files: &mut F, out: 
         → HasFailed (F.faults files.old) (F.faults files.new) }
     ensures write_fault { result ≡ Status.WriteFault
         → HasFailed (O.faults out.old) (O.faults out.new) }
+    ensures answered_read { result ≢ Status.ReadFault
+        → F.faults files.new ≡ F.faults files.old }
+    ensures answered_write { result ≢ Status.WriteFault
+        → O.faults out.new ≡ O.faults out.old }
 {
     let Some(command) = command_of(words) else {
         return Status::Usage;
@@ -184,6 +201,10 @@ pub fn run<F: Files, O: Sink, E: Sink>(
         → HasFailed (F.faults files.old) (F.faults files.new) }
     ensures write_fault { result ≡ Status.WriteFault
         → HasFailed (O.faults out.old) (O.faults out.new) }
+
+    // A fault that was counted is answered, so that none is passed over and nothing is tried again.
+    ensures answered_read { result ≢ Status.ReadFault → F.faults files.new ≡ F.faults files.old }
+    ensures answered_write { result ≢ Status.WriteFault → O.faults out.new ≡ O.faults out.old }
 
     // So accepted words over an outside without faults are answered in full, unless memory runs out.
     ensures complete { IsSome (request_of (texts words.now))

@@ -1,66 +1,96 @@
 // How a run ends.
 ghost use Rattle.std.specs.Prelude.{◌≡◌};
-ghost use Rattle.flexplan.specs.declared.status.Stop.TheVariants as stop;
+ghost use Rattle.flexplan.specs.ExitNumber.{exit_number};
+ghost use Rattle.flexplan.specs.declared.status.Failure.TheVariants as failure;
 
 use flex_io::{LoadError, PutError};
 use flex_model::NoMemory;
 
-/// The answer of a run. Its number is the program's exit status.
+/// The answer of a run.
 #[derive(Clone, Copy, Debug, PartialEq, Eq)]
 pub enum Status {
-    Done = 0,
-    Usage = 1,
-    FeedFaulty = 2,
-    TimesFaulty = 3,
-    QueriesFaulty = 4,
-    CertRefused = 5,
-    ReadFault = 6,
-    WriteFault = 7,
-    NoMemory = 8,
+    /// All is done: each query is answered, or the feed has no faults.
+    Done,
+    /// The words are of no accepted form.
+    Usage,
+    /// The feed has faults.
+    FeedFaulty,
+    /// The times folder has faults, and the feed has none.
+    TimesFaulty,
+    /// The query file has faults, and what is fetched before it has none.
+    QueriesFaulty,
+    /// A certificate isn't valid. No command answers it yet.
+    CertRefused,
+    /// A file couldn't be read.
+    ReadFault,
+    /// The output couldn't be written.
+    WriteFault,
+    /// Memory ran out.
+    NoMemory,
     /// The input is of a form that isn't built yet.
-    NotBuilt = 9,
+    NotBuilt,
+}
+
+impl Status {
+    /// The number of the status, which is the program's exit status.
+    pub fn number(self) -> u8
+        ensures { result ≡ exit_number self }
+    {
+        match self {
+            Status::Done => 0,
+            Status::Usage => 1,
+            Status::FeedFaulty => 2,
+            Status::TimesFaulty => 3,
+            Status::QueriesFaulty => 4,
+            Status::CertRefused => 5,
+            Status::ReadFault => 6,
+            Status::WriteFault => 7,
+            Status::NoMemory => 8,
+            Status::NotBuilt => 9,
+        }
+    }
 }
 
 /// What ends a command before its answer is whole.
 #[derive(Clone, Copy, Debug, PartialEq, Eq)]
-pub enum Stop {
+pub enum Failure {
     ReadFault,
     WriteFault,
     NoMemory,
 }
 
-impl From<LoadError> for Stop {
+impl From<LoadError> for Failure {
     ghost use Rattle.std.specs.Prelude.{◌≡◌};
-    ghost use Rattle.flexplan.specs.Stops.{stop_of_load};
+    ghost use Rattle.flexplan.specs.Failures.{failure_of_load};
 
-    ghost from_gives = { λ error s. s ≡ stop_of_load error };
+    ghost from_gives = { λ error s. s ≡ failure_of_load error };
 
     fn from(error: LoadError) -> Self {
         match error {
-            LoadError::ReadFault => Stop::ReadFault,
-            LoadError::NoMemory => Stop::NoMemory,
+            LoadError::ReadFault => Failure::ReadFault,
+            LoadError::NoMemory => Failure::NoMemory,
         }
     }
 }
 
-impl From<PutError> for Stop {
+impl From<PutError> for Failure {
     ghost use Rattle.std.specs.Prelude.{◌≡◌};
-    ghost use Rattle.flexplan.specs.Stops.{stop_of_put};
+    ghost use Rattle.flexplan.specs.Failures.{failure_of_put};
 
-    ghost from_gives = { λ error s. s ≡ stop_of_put error };
+    ghost from_gives = { λ error s. s ≡ failure_of_put error };
 
     fn from(error: PutError) -> Self {
         match error {
-            PutError::Failed => Stop::WriteFault,
-            PutError::NoMemory => Stop::NoMemory,
+            PutError::Failed => Failure::WriteFault,
+            PutError::NoMemory => Failure::NoMemory,
         }
     }
 }
 
-impl From<NoMemory> for Stop {
-    ghost from_gives = { λ _ s. s ≡ stop.NoMemory };
+impl From<NoMemory> for Failure {
+    ghost from_gives = { λ _ s. s ≡ failure.NoMemory };
 
     fn from(_: NoMemory) -> Self {
-        Stop::NoMemory
+        Failure::NoMemory
     }
 }

@@ -1,5 +1,0 @@
-use Rattle.flex_model.proofs.FlawOrder.{PassesUpTo}
-use Rattle.flex_model.proofs.judge.ride.judge_ride.Given as goal
-
-abbrev pub invariant-loop-flaw : goal.invariant-loop-flaw
-invariant-loop-flaw l = PassesUpTo l.feed l.times l.days l.ride l.flaw-index
