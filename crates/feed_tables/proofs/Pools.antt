@@ -5,10 +5,10 @@ use Rattle.std.specs.Str.{IsCharBoundary}
 use Rattle.std.proofs.lemmas.Bool.{cases_order}
 use Rattle.std.proofs.Math.Seq.{get_or-append_seam}
 use Rattle.std.proofs.lemmas.List.Sums.{sum_by-cons}
-use Rattle.std.proofs.lemmas.List.{get_or_append_left, get_or_past, length-append, length-drop, length-take-le}
-use Rattle.std.proofs.lemmas.Str.{IsCharBoundary-at_seam, IsCharBoundary-end, IsCharBoundary-start, IsUtf8-append, IsUtf8-nil}
+use Rattle.std.proofs.lemmas.List.{get_or_append_left, length-append, length-drop, length-take-le}
+use Rattle.std.proofs.lemmas.Str.{IsCharBoundary-at_seam, IsCharBoundary-end, IsUtf8-append, IsUtf8-nil}
 use Rattle.feed_tables.specs.Parts.{EndAt, IsCut, parts}
-use Rattle.feed_tables.proofs.TableFacts.{end-low, end-more, end-order, end-within, first-part, later-part, length-parts, parts-more}
+use Rattle.feed_tables.proofs.TableFacts.{end-low, end-more, end-order, first-part, later-part}
 
 -- ---- the places
 

@@ -1,6 +1,5 @@
 use Rattle.std.proofs.Common.{◌≡◌, drop}
 use Rattle.std.specs.List.{list_any}
-use Rattle.csv.specs.Records.{fields_of}
 use Rattle.feed_tables.specs.Refusals.{is_given}
 use Rattle.feed_tables.proofs.table.has_given.Given as goal
 

@@ -1,4 +1,4 @@
-use Rattle.std.proofs.Common.{◌≡◌, ◌<◌, ◌∷◌, ◌∙◌, ◌-◌, take, drop, [], ℕ, List, sym, ap, subst, length, get_or, arith}
+use Rattle.std.proofs.Common.{◌≡◌, ◌<◌, ◌∙◌, ◌-◌, take, drop, [], ℕ, List, sym, ap, length, get_or, arith}
 use Rattle.std.specs.Prelude.{string_bytes}
 use Rattle.std.proofs.lemmas.List.{get_or_default, get_or_past}
 use Rattle.feed_tables.proofs.Pools.{part-at, start-low}

@@ -1,7 +1,6 @@
 use Rattle.std.proofs.Common.{◌≡◌, ◌<◌, ◌∙◌, sym, ap, length, get_or, arith, [], ℕ, List, false, position}
 use Rattle.std.specs.Str.{bytes_eq}
 use Rattle.std.proofs.lemmas.List.{get_or_default}
-use Rattle.csv.specs.Records.{fields_of}
 use Rattle.feed_tables.specs.Parts.{parts}
 use Rattle.feed_tables.specs.Records.{header_of}
 use Rattle.feed_tables.proofs.TableFacts.{header-field, position-found, position-missing}

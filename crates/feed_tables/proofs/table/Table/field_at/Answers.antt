@@ -1,6 +1,5 @@
 use Rattle.std.proofs.Common.{◌≡◌, ◌<◌, ◌-◌, ◌+◌, ◌∙◌, sym, ap, length, get_or, arith, [], ℕ, List}
 use Rattle.std.proofs.lemmas.List.{get_or_default}
-use Rattle.csv.specs.Records.{fields_of}
 use Rattle.feed_tables.proofs.TableFacts.{end-order, field-of-part, length-parts}
 use Rattle.feed_tables.proofs.table.Table.field_at.Goals as goal
 

@@ -58,12 +58,12 @@ loop-place-preserved c =
 
 pub returns-then-branch-clause-refused : goal.returns-then-branch-clause-refused
 returns-then-branch-clause-refused c =
-    let (fields, rest, got) = found-some-true _ _ c.if-branch.true c.in_ok-has_next.ensures in
+    let (fields, rest, got) = found-some-true _ _ c.if-branch.true c.in_ok-has_next.ensures.found in
     row-refused _ _ _ _ _ _ _ got c.loop-place.invariant.sound (inr (refusal-many _ _ _ (omega (arith, c.loop-place-test.false))))
 
 pub returns-clause-accepted : goal.returns-clause-accepted
 returns-clause-accepted c =
-    let none = found-none _ _ c.if-branch.false c.in_ok-has_next.ensures in
+    let none = found-none _ _ c.if-branch.false c.in_ok-has_next.ensures.found in
     rows-done _ _ _ _ none c.loop-place.invariant.sound
 
 pub returns-in_err-next-clause-refused : goal.returns-in_err-next-clause-refused
