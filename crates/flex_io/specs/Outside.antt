@@ -1,6 +1,7 @@
 -- What the outside tells: the bytes of files by their paths, the bytes that a sink was given, and how
 -- often each has failed. The rules are this project's own.
-use Rattle.std.specs.Prelude.{◌≡◌, ℕ, ◌+◌, ◌-◌, ◌^◌, ◌≤◌, min, List, ◌++◌, length, Option, Some, IfSome}
+use Rattle.std.specs.Prelude.{◌≡◌, ℕ, ◌+◌, ◌-◌, ◌^◌, ◌≤◌, min, List, ◌++◌, length}
+use Rattle.std.specs.Prelude.{Option, Some, IfSome, IsSomeAnd}
 use Rattle.std.specs.Option.{option_map}
 use Rattle.std.specs.Ordering.{nat_cmp}
 use Rattle.std.specs.Cmp.Lexicographic.{slice_cmp}
@@ -33,6 +34,10 @@ pub record AppendsFile (told : Option FileMap) (path : List ℕ) (limit : ℕ) (
   pub within_limit : length bytes ≤ limit
   pub appended : after ≡ before ++ bytes
   pub as_told : IfSome told (λ files. bytes_at files path ≡ Some bytes)
+
+-- the told files have a file of the path, which is within the limit
+abbrev pub HasFileWithin : List ℕ → ℕ → FileMap → Type 0
+HasFileWithin path limit files = IsSomeAnd (bytes_at files path) (λ bytes. length bytes ≤ limit)
 
 -- what a sink tells after it gained bytes, if it tells anything
 abbrev pub grown : Option (List ℕ) → List ℕ → Option (List ℕ)

@@ -51,6 +51,8 @@ impl<R: rt::Files> Files for HostFiles<R> {
         ensures counted { fetch_faults self.old ≤ fetch_faults self.new }
         ensures failed { IsErrOf result FetchError.Failed
             → HasFailed (fetch_faults self.old) (fetch_faults self.new) }
+        ensures answered { result ≢ Err FetchError.Failed
+            → fetch_faults self.new ≡ fetch_faults self.old }
     {
         let got = fetch_opened(fs::open(&self.system, path), limit, into);
         if got == Err(FetchError::Failed) {

@@ -44,6 +44,8 @@ impl<W: Write> Sink for HostSink<W> {
         ensures counted { put_faults self.old ≤ put_faults self.new }
         ensures failed { IsErrOf result PutError.Failed
             → HasFailed (put_faults self.old) (put_faults self.new) }
+        ensures answered { result ≢ Err PutError.Failed
+            → put_faults self.new ≡ put_faults self.old }
     {
         if write_whole(&mut self.stream, piece) {
             return Ok(());

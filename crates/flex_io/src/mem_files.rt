@@ -1,11 +1,12 @@
 // Files in memory, for tests and generated input, which fail at the calls that are named alone.
-ghost use Rattle.std.specs.Prelude.{◌≡◌, ◌≢◌, ◌≤◌, ◌<◌, ◌↔◌, length, Option, None, Some, Ok, Err, IsSomeAnd, IsErrOf, OnOk, OnErr, IsTrue};
+ghost use Rattle.std.specs.Prelude.{◌≡◌, ◌≢◌, ◌≤◌, ◌<◌, ◌↔◌, length, Option, None, Some, Ok, Err};
+ghost use Rattle.std.specs.Prelude.{IsSomeAnd, IsErrOf, OnOk, OnErr, IsTrue};
 ghost use Rattle.std.specs.FinMap as map;
 ghost use Rattle.std.specs.FinSet as set;
 ghost use Rattle.std.specs.Ordering.{nat_cmp};
 ghost use Rattle.std.specs.Cmp.Lexicographic.{slice_cmp};
 ghost use Rattle.std.specs.Option.{option_copied};
-ghost use Rattle.flex_io.specs.Outside.{bytes_at, HasFailed, AppendsFile, next_count};
+ghost use Rattle.flex_io.specs.Outside.{bytes_at, next_count, AppendsFile, HasFailed, HasFileWithin};
 ghost use Rattle.flex_io.specs.Answers.{faults_after_fetch};
 
 use crate::error::FetchError;
@@ -144,6 +145,9 @@ impl Files for MemFiles {
         ensures too_large { OnOk result ((result ≡ Ok Got.TooLarge)
             ↔ IsSomeAnd (bytes_at self.old.files path.now) (λ bytes. limit < length bytes)) }
 
+        ensures memory { IsErrOf result FetchError.NoMemory
+            → HasFileWithin path.now limit self.old.files }
+
         // It fails exactly at the calls that were named. Each call counts, whatever its answer.
         ensures failed { IsErrOf result FetchError.Failed
             ↔ IsTrue (set.contains self.old.failing (next_count self.old.calls)) }
@@ -156,6 +160,7 @@ impl Files for MemFiles {
         ensures counted { self.old.faults ≤ self.new.faults }
         ensures cause { IsErrOf result FetchError.Failed
             → HasFailed self.old.faults self.new.faults }
+        ensures answered { result ≢ Err FetchError.Failed → self.new.faults ≡ self.old.faults }
         ensures steady { self.old.failing ≡ set.empty
             → (self.new.failing ≡ set.empty) × (self.new.faults ≡ self.old.faults)
             × (result ≢ Err FetchError.Failed) }

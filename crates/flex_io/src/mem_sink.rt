@@ -1,5 +1,6 @@
 // A sink in memory, for tests, which fails at the calls that are named alone.
-ghost use Rattle.std.specs.Prelude.{◌≡◌, ◌≤◌, [], ◌++◌, take, Option, None, Some, IsSomeAnd, IsErrOf, OnOk, OnErr};
+ghost use Rattle.std.specs.Prelude.{◌≡◌, ◌≢◌, ◌≤◌, [], ◌++◌, take, Option, None, Some, Err};
+ghost use Rattle.std.specs.Prelude.{IsSomeAnd, IsErrOf, OnOk, OnErr};
 ghost use Rattle.std.specs.FinMap as map;
 ghost use Rattle.std.specs.Ordering.{nat_cmp};
 ghost use Rattle.flex_io.specs.Outside.{HasFailed, Gains, IsBeginning, next_count};
@@ -110,6 +111,7 @@ impl Sink for MemSink {
             → Gains (Some self.old.bytes) (Some self.new.bytes) (IsBeginning piece.now) }
         ensures counted { self.old.faults ≤ self.new.faults }
         ensures cause { IsErrOf result PutError.Failed → HasFailed self.old.faults self.new.faults }
+        ensures answered { result ≢ Err PutError.Failed → self.new.faults ≡ self.old.faults }
     {
         self.calls = self.calls.saturating_add(1);
         let Some(keep) = self.kept_at(self.calls) else {
