@@ -37,7 +37,7 @@ all-more p (y ∷ ys) x h e = by (p y) h (λ g. all-more p ys x g e)
     by true g more = more g
     by false g more = g
 
--- the field at a place
+-- the field at an index
 pub field-get : (fields : List (List ℕ)) (i : ℕ) (x : List ℕ) → Some x ≡ field_at fields i → get_or fields i [] ≡ x
 unfolding field_at
 field-get [] i x e = cc e

@@ -6,7 +6,7 @@ use Rattle.feed_tables.specs.Records.{header_of}
 use Rattle.feed_tables.proofs.TableFacts.{header-field, position-found, position-missing}
 use Rattle.feed_tables.proofs.table.Table.column.Goals as goal
 
--- the value at a place, whatever the default
+-- the value at an index, whatever the default
 read : (xs : List ℕ) (i x : ℕ) → x ≡ get_or xs i x → i < length xs → x ≡ get_or xs i 0
 read xs i x e lt = e ∙ get_or_default xs i x 0 lt
 
