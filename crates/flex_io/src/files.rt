@@ -1,4 +1,5 @@
 // The trait by which the program reads files.
+
 ghost use Rattle.std.specs.Prelude.{◌≡◌, ◌≢◌, ◌≤◌, ◌<◌, ◌↔◌, ℕ, length, Option, None, Ok, Err};
 ghost use Rattle.std.specs.Prelude.{IfSome, IsSomeAnd, IsErrOf, OnOk};
 ghost use Rattle.flex_io.specs.Outside.{FileMap, bytes_at, HasFailed, HasFileWithin, AppendsFile};
@@ -41,8 +42,9 @@ pub trait Files {
             → AppendsFile (told self.old) path.now limit into.old.items into.new.items }
         ensures unchanged { result ≢ Ok Got.Whole → into.new.items ≡ into.old.items }
 
-        // Where files are told, a file is absent exactly where the map lacks its path, and too large
-        // exactly where its bytes are more than the limit, unless the fetch failed or memory ran out.
+        // Where files are told, a file is absent exactly where the map lacks its path, and too
+        // large exactly where its bytes are more than the limit, unless the fetch failed or memory
+        // ran out.
         ensures absent { OnOk result (IfSome (told self.old) (λ files.
             (result ≡ Ok Got.Absent) ↔ (bytes_at files path.now ≡ None))) }
         ensures too_large { OnOk result (IfSome (told self.old) (λ files.

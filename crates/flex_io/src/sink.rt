@@ -1,4 +1,5 @@
 // The trait by which the program writes its output.
+
 ghost use Rattle.std.specs.Prelude.{◌≡◌, ◌≢◌, ◌≤◌, ℕ, List, Option, Err, IsErrOf, OnOk};
 ghost use Rattle.flex_io.specs.Outside.{HasFailed, grown, Gains, IsBeginning};
 
