@@ -5,23 +5,23 @@ use Rattle.std.specs.Str.{IsCharBoundary}
 use Rattle.std.proofs.lemmas.Bool.{cases_order}
 use Rattle.std.proofs.Math.Seq.{get_or-append_seam}
 use Rattle.std.proofs.lemmas.List.Sums.{sum_by-cons}
-use Rattle.std.proofs.lemmas.List.{get_or_append_left, get_or_past, length-append, length-drop, length-take-le}
-use Rattle.std.proofs.lemmas.Str.{IsCharBoundary-at_seam, IsCharBoundary-end, IsCharBoundary-start, IsUtf8-append, IsUtf8-nil}
+use Rattle.std.proofs.lemmas.List.{get_or_append_left, length-append, length-drop, length-take-le}
+use Rattle.std.proofs.lemmas.Str.{IsCharBoundary-at_seam, IsCharBoundary-end, IsUtf8-append, IsUtf8-nil}
 use Rattle.feed_tables.specs.Parts.{EndAt, IsCut, parts}
-use Rattle.feed_tables.proofs.TableFacts.{end-low, end-more, end-order, end-within, first-part, later-part, length-parts, parts-more}
+use Rattle.feed_tables.proofs.TableFacts.{end-low, end-more, end-order, first-part, later-part}
 
--- ---- the places
+-- ---- the indices
 
--- the text at a place
-pub part-at : (ends text : List ℕ) (place : ℕ) → place < length ends
-    → get_or (parts 0 ends text) place [] ≡ take (get_or ends place 0 - get_or (0 ∷ ends) place 0) (drop (get_or (0 ∷ ends) place 0) text)
+-- the text at an index
+pub part-at : (ends text : List ℕ) (index : ℕ) → index < length ends
+    → get_or (parts 0 ends text) index [] ≡ take (get_or ends index 0 - get_or (0 ∷ ends) index 0) (drop (get_or (0 ∷ ends) index 0) text)
 part-at ends text zero lt = let n : get_or ends 0 0 - 0 ≡ get_or ends 0 0 = omega arith in first-part ends text lt ∙ ap (λ k. take k text) (sym n)
 part-at ends text (suc i) lt =
     let step : suc i ≡ i + 1 = omega arith in
     rw step (later-part 0 ends text i (omega (arith, lt)))
 
 -- it starts no later than it ends
-pub start-low : (ends : List ℕ) (size place : ℕ) → EndAt 0 ends size → place < length ends → get_or (0 ∷ ends) place 0 ≤ get_or ends place 0
+pub start-low : (ends : List ℕ) (size index : ℕ) → EndAt 0 ends size → index < length ends → get_or (0 ∷ ends) index 0 ≤ get_or ends index 0
 start-low ends size zero cut lt = omega arith
 start-low ends size (suc i) cut lt =
     let step : suc i ≡ i + 1 = omega arith in
@@ -40,7 +40,7 @@ sum-parts start (end ∷ ends) text cut =
 
 -- ---- one more text
 
--- a place between two characters stays one
+-- an index between two characters stays one
 between-more : (text more : List ℕ) (i : ℕ) → IsUtf8 more → IsCharBoundary text i → IsCharBoundary (text ++ more) i
 between-more text more i utf8 at = by (cases_order i (length text))
   where

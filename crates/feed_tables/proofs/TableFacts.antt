@@ -1,4 +1,4 @@
--- How a table's pool and places follow its records.
+-- How a table's pool and indices follow its records.
 use Rattle.std.proofs.Common.{◌≡◌, ◌≤◌, ◌<◌, ◌+◌, ◌-◌, ◌⊎◌, inl, inr, ℕ, zero, suc, List, [], ◌∷◌, ◌++◌, take, drop, length, get_or, Some, None, Bool, true, false, refl, sym, ap, ◌∙◌, arith}
 use Rattle.std.specs.Prelude.{not, ◌==◌, ◌||◌, if◌then◌else◌, filter, position}
 use Rattle.std.specs.List.{list_all, list_any}
@@ -13,7 +13,7 @@ use Rattle.feed_tables.specs.declared.refusal.TheConstants.{MAX_ROWS}
 use Rattle.feed_tables.specs.declared.refusal.TableRefusal.{TableRefusal}
 use Rattle.feed_tables.specs.declared.refusal.TableRefusal.TheVariants as refusal
 
--- ---- places
+-- ---- indices
 
 -- a start comes no later than the end
 pub end-low : (start : ℕ) (ends : List ℕ) (size : ℕ) → EndAt start ends size → start ≤ size
@@ -21,13 +21,13 @@ unfolding EndAt
 end-low start [] size h = omega (arith, h)
 end-low start (end ∷ ends) size h = omega (arith, h.0, end-low end ends size h.1)
 
--- one more place
+-- one more index
 pub end-more : (start : ℕ) (ends : List ℕ) (size more : ℕ) → EndAt start ends size → size ≤ more → EndAt start (ends ++ more ∷ []) more
 unfolding EndAt
 end-more start [] size more h g = (omega (arith, h, g), refl)
 end-more start (end ∷ ends) size more h g = (h.0, end-more end ends size more h.1 g)
 
--- the places are in order
+-- the indices are in order
 pub end-order : (start : ℕ) (ends : List ℕ) (size i : ℕ) → EndAt start ends size → i + 1 < length ends → get_or ends i 0 ≤ get_or ends (i + 1) 0
 unfolding EndAt
 end-order start [] size i h lt = absurd (omega (arith, lt))
@@ -66,14 +66,14 @@ parts-more start (end ∷ ends) xs ys h =
     ap (take (end - start)) (drop-append-le start xs ys (omega (arith, h.0, low))) ∙ take-append-le (end - start) (drop start xs) ys (omega (arith, size, low, h.0)) in
     rw (first, parts-more end ends xs ys h.1) refl
 
--- the same of places and a list that gained it
-pub parts-pushed : {X : Type 0} (ends places : List ℕ) (old new xs : List X) (n : ℕ) → EndAt 0 ends (length old) → places ≡ ends ++ n ∷ [] → n ≡ length new → new ≡ old ++ xs
-    → parts 0 places new ≡ parts 0 ends old ++ xs ∷ []
-parts-pushed ends places old new xs n cut e f g = rw (e, f, g) (parts-more 0 ends old xs cut)
+-- the same of indices and a list that gained it
+pub parts-pushed : {X : Type 0} (ends indices : List ℕ) (old new xs : List X) (n : ℕ) → EndAt 0 ends (length old) → indices ≡ ends ++ n ∷ [] → n ≡ length new → new ≡ old ++ xs
+    → parts 0 indices new ≡ parts 0 ends old ++ xs ∷ []
+parts-pushed ends indices old new xs n cut e f g = rw (e, f, g) (parts-more 0 ends old xs cut)
 
-pub cut-pushed : {X : Type 0} (ends places : List ℕ) (old new xs : List X) (n : ℕ) → EndAt 0 ends (length old) → places ≡ ends ++ n ∷ [] → n ≡ length new → new ≡ old ++ xs
-    → EndAt 0 places (length new)
-cut-pushed ends places old new xs n cut e f g =
+pub cut-pushed : {X : Type 0} (ends indices : List ℕ) (old new xs : List X) (n : ℕ) → EndAt 0 ends (length old) → indices ≡ ends ++ n ∷ [] → n ≡ length new → new ≡ old ++ xs
+    → EndAt 0 indices (length new)
+cut-pushed ends indices old new xs n cut e f g =
     rw (e, f, g) (end-more 0 ends (length old) (length (old ++ xs)) cut (omega (arith, length-append old xs)))
 
 -- the first part
@@ -94,28 +94,28 @@ later-part start (end ∷ more ∷ ends) xs (suc i) lt =
     rw step (later-part end (more ∷ ends) xs i (omega (arith, lt)))
 
 -- a field of a later part
-pub field-of-part : (ends : List ℕ) (xs : List (List ℕ)) (place column : ℕ) → 0 < place → place < length ends
-    → (column < get_or ends place 0 - get_or ends (place - 1) 0 → get_or (get_or (parts 0 ends xs) place []) column [] ≡ get_or xs (get_or ends (place - 1) 0 + column) [])
-    × (get_or ends place 0 - get_or ends (place - 1) 0 ≤ column → get_or (get_or (parts 0 ends xs) place []) column [] ≡ [])
-field-of-part ends xs place column low high =
-    let step : (place - 1) + 1 ≡ place = omega arith in
-    let at_step : get_or (parts 0 ends xs) ((place - 1) + 1) [] ≡ take (get_or ends ((place - 1) + 1) 0 - get_or ends (place - 1) 0) (drop (get_or ends (place - 1) 0) xs) =
-    later-part 0 ends xs (place - 1) (omega (arith, low, high)) in
+pub field-of-part : (ends : List ℕ) (xs : List (List ℕ)) (index column : ℕ) → 0 < index → index < length ends
+    → (column < get_or ends index 0 - get_or ends (index - 1) 0 → get_or (get_or (parts 0 ends xs) index []) column [] ≡ get_or xs (get_or ends (index - 1) 0 + column) [])
+    × (get_or ends index 0 - get_or ends (index - 1) 0 ≤ column → get_or (get_or (parts 0 ends xs) index []) column [] ≡ [])
+field-of-part ends xs index column low high =
+    let step : (index - 1) + 1 ≡ index = omega arith in
+    let at_step : get_or (parts 0 ends xs) ((index - 1) + 1) [] ≡ take (get_or ends ((index - 1) + 1) 0 - get_or ends (index - 1) 0) (drop (get_or ends (index - 1) 0) xs) =
+    later-part 0 ends xs (index - 1) (omega (arith, low, high)) in
     let part = rw step at at_step in (
-      (λ lt. rw part (get_or-take _ (drop (get_or ends (place - 1) 0) xs) column [] lt ∙ get_or-drop (get_or ends (place - 1) 0) xs column [])),
-      (λ le. rw part (let size = length-take (get_or ends place 0 - get_or ends (place - 1) 0) (drop (get_or ends (place - 1) 0) xs) in get_or_past _ column [] (omega (arith, size, le)))),
+      (λ lt. rw part (get_or-take _ (drop (get_or ends (index - 1) 0) xs) column [] lt ∙ get_or-drop (get_or ends (index - 1) 0) xs column [])),
+      (λ le. rw part (let size = length-take (get_or ends index 0 - get_or ends (index - 1) 0) (drop (get_or ends (index - 1) 0) xs) in get_or_past _ column [] (omega (arith, size, le)))),
     )
 
 -- ---- rows
 
-pub numbered-more : (rows : List (List (List ℕ))) (place : ℕ) → place < length rows
-    → numbered_from (place + 1) (drop place rows) ≡ record { number = place + 1; fields = get_or rows place [] } ∷ numbered_from (place + 1 + 1) (drop (place + 1) rows)
+pub numbered-more : (rows : List (List (List ℕ))) (index : ℕ) → index < length rows
+    → numbered_from (index + 1) (drop index rows) ≡ record { number = index + 1; fields = get_or rows index [] } ∷ numbered_from (index + 1 + 1) (drop (index + 1) rows)
 unfolding numbered_from
-numbered-more rows place lt = rw (drop_more rows place [] lt) refl
+numbered-more rows index lt = rw (drop_more rows index [] lt) refl
 
-pub numbered-end : (rows : List (List (List ℕ))) (place : ℕ) → length rows ≤ place → numbered_from (place + 1) (drop place rows) ≡ []
+pub numbered-end : (rows : List (List (List ℕ))) (index : ℕ) → length rows ≤ index → numbered_from (index + 1) (drop index rows) ≡ []
 unfolding numbered_from
-numbered-end rows place le = rw (drop_all place rows le) refl
+numbered-end rows index le = rw (drop_all index rows le) refl
 
 pub length-numbered : (number : ℕ) (rows : List (List (List ℕ))) → length (numbered_from number rows) ≡ length rows
 unfolding numbered_from
@@ -151,13 +151,13 @@ duplicate-more (x ∷ xs) (suc n) h = by (is_given x) (duplicate-more xs n h)
     by true e = ap (λ t. list_any (bytes_eq x) (filter is_given xs) || t) e ∙ or-true (list_any (bytes_eq x) (filter is_given xs))
     by false e = e
 
--- a name at a place, from the end: one that stands after it too, another, and none
+-- a name at an index, from the end: one that stands after it too, another, and none
 pub given-at : (xs : List (List ℕ)) (i : ℕ) (x : List ℕ) (b : Bool) → x ≡ get_or xs i [] → b ≡ (length x == 0) → is_given (get_or xs i []) ≡ not b
 given-at xs i x b e f = ap is_given (sym e) ∙ given-length x ∙ ap not (sym f)
 
 -- ---- the columns
 
--- the first place that passes a test
+-- the first index that passes a test
 pub position-found : (p : List ℕ → Bool) (xs : List (List ℕ)) (i : ℕ) → i < length xs → ((k : ℕ) → k < i → p (get_or xs k []) ≡ false) → p (get_or xs i []) ≡ true → Some i ≡ position p xs
 position-found p xs i lt before here =
     let at = position_or_len_is p xs i [] (omega (arith, lt)) before (λ _. here) in
@@ -179,10 +179,10 @@ header-field ends pool some cut =
 
 -- ---- refusals
 
-pub refusal-text : (columns place : ℕ) (fields : List (List ℕ)) → place ≤ MAX_ROWS → list_all is_utf8 fields ≡ false
-    → refusal_of columns place fields ≡ Some (refusal.NotUtf8 (place + 1))
+pub refusal-text : (columns index : ℕ) (fields : List (List ℕ)) → index ≤ MAX_ROWS → list_all is_utf8 fields ≡ false
+    → refusal_of columns index fields ≡ Some (refusal.NotUtf8 (index + 1))
 unfolding refusal_of
-refusal-text columns place fields high text = rw (le-ltb MAX_ROWS place high, text) refl
+refusal-text columns index fields high text = rw (le-ltb MAX_ROWS index high, text) refl
 
 pub refusal-duplicate : (columns : ℕ) (fields : List (List ℕ)) → list_all is_utf8 fields ≡ true → has_duplicate (filter is_given fields) ≡ true
     → refusal_of columns 0 fields ≡ Some refusal.DuplicateColumn
@@ -194,48 +194,48 @@ pub refusal-header : (columns : ℕ) (fields : List (List ℕ)) → columns ≡ 
 unfolding refusal_of
 refusal-header columns fields size text once = rw (text, once, drop_all columns fields (omega (arith, size))) refl
 
-pub refusal-long : (columns place : ℕ) (fields : List (List ℕ)) → 0 < place → place ≤ MAX_ROWS → list_all is_utf8 fields ≡ true → list_any is_given (drop columns fields) ≡ true
-    → refusal_of columns place fields ≡ Some (refusal.RowTooLong (place + 1))
+pub refusal-long : (columns index : ℕ) (fields : List (List ℕ)) → 0 < index → index ≤ MAX_ROWS → list_all is_utf8 fields ≡ true → list_any is_given (drop columns fields) ≡ true
+    → refusal_of columns index fields ≡ Some (refusal.RowTooLong (index + 1))
 unfolding refusal_of
-refusal-long columns place fields low high text given = rw (le-ltb MAX_ROWS place high, text, ne_eqb place 0 (λ e. absurd (omega (arith, e, low))), given) refl
+refusal-long columns index fields low high text given = rw (le-ltb MAX_ROWS index high, text, ne_eqb index 0 (λ e. absurd (omega (arith, e, low))), given) refl
 
-pub refusal-none : (columns place : ℕ) (fields : List (List ℕ)) → 0 < place → place ≤ MAX_ROWS → list_all is_utf8 fields ≡ true → list_any is_given (drop columns fields) ≡ false
-    → refusal_of columns place fields ≡ None
+pub refusal-none : (columns index : ℕ) (fields : List (List ℕ)) → 0 < index → index ≤ MAX_ROWS → list_all is_utf8 fields ≡ true → list_any is_given (drop columns fields) ≡ false
+    → refusal_of columns index fields ≡ None
 unfolding refusal_of
-refusal-none columns place fields low high text given = rw (le-ltb MAX_ROWS place high, text, ne_eqb place 0 (λ e. absurd (omega (arith, e, low))), given) refl
+refusal-none columns index fields low high text given = rw (le-ltb MAX_ROWS index high, text, ne_eqb index 0 (λ e. absurd (omega (arith, e, low))), given) refl
 
-pub refusal-many : (columns place : ℕ) (fields : List (List ℕ)) → MAX_ROWS < place → refusal_of columns place fields ≡ Some refusal.TooManyRows
+pub refusal-many : (columns index : ℕ) (fields : List (List ℕ)) → MAX_ROWS < index → refusal_of columns index fields ≡ Some refusal.TooManyRows
 unfolding refusal_of
-refusal-many columns place fields high = rw (lt-ltb MAX_ROWS place high) refl
+refusal-many columns index fields high = rw (lt-ltb MAX_ROWS index high) refl
 
 -- records so far that break no rule, and the next one
-pub refusal-next : (columns place : ℕ) (fields : List (List ℕ)) (rest : List (List (List ℕ))) → refusal_of columns place fields ≡ None
-    → first_refusal_from columns place (fields ∷ rest) ≡ first_refusal_from columns (place + 1) rest
+pub refusal-next : (columns index : ℕ) (fields : List (List ℕ)) (rest : List (List (List ℕ))) → refusal_of columns index fields ≡ None
+    → first_refusal_from columns index (fields ∷ rest) ≡ first_refusal_from columns (index + 1) rest
 unfolding first_refusal_from
-refusal-next columns place fields rest e = rw e refl
+refusal-next columns index fields rest e = rw e refl
 
-pub refusal-first : (columns place : ℕ) (fields : List (List ℕ)) (rest : List (List (List ℕ))) (r : TableRefusal) → refusal_of columns place fields ≡ Some r
-    → first_refusal_from columns place (fields ∷ rest) ≡ Some r
+pub refusal-first : (columns index : ℕ) (fields : List (List ℕ)) (rest : List (List (List ℕ))) (r : TableRefusal) → refusal_of columns index fields ≡ Some r
+    → first_refusal_from columns index (fields ∷ rest) ≡ Some r
 unfolding first_refusal_from
-refusal-first columns place fields rest r e = rw e refl
+refusal-first columns index fields rest r e = rw e refl
 
-pub refusal-end : (columns place : ℕ) → first_refusal_from columns place [] ≡ None
+pub refusal-end : (columns index : ℕ) → first_refusal_from columns index [] ≡ None
 unfolding first_refusal_from
-refusal-end columns place = refl
+refusal-end columns index = refl
 
 -- a record with a field that isn't UTF-8 is refused for that
-pub text-refused : (columns place : ℕ) (fields : List (List ℕ)) (e : TableRefusal) → place ≤ MAX_ROWS
-    → (e ≡ refusal.NoMemory) ⊎ ((e ≡ refusal.NotUtf8 (place + 1)) × (list_all is_utf8 fields ≡ false))
-    → (e ≡ refusal.NoMemory) ⊎ (refusal_of columns place fields ≡ Some e)
-text-refused columns place fields e high (inl none) = inl none
-text-refused columns place fields e high (inr bad) = inr (refusal-text columns place fields high bad.1 ∙ ap Some (sym bad.0))
+pub text-refused : (columns index : ℕ) (fields : List (List ℕ)) (e : TableRefusal) → index ≤ MAX_ROWS
+    → (e ≡ refusal.NoMemory) ⊎ ((e ≡ refusal.NotUtf8 (index + 1)) × (list_all is_utf8 fields ≡ false))
+    → (e ≡ refusal.NoMemory) ⊎ (refusal_of columns index fields ≡ Some e)
+text-refused columns index fields e high (inl none) = inl none
+text-refused columns index fields e high (inr bad) = inr (refusal-text columns index fields high bad.1 ∙ ap Some (sym bad.0))
 
--- a pool with more fields, from a place after those that it had
+-- a pool with more fields, from an index after those that it had
 pub drop-added : (old new : List (List ℕ)) (n : ℕ) → drop (length old + n) (old ++ new) ≡ drop n new
 drop-added [] new n = let z : 0 + n ≡ n = omega arith in ap (λ k. drop k new) z
 drop-added (x ∷ xs) new n = let s : suc (length xs) + n ≡ suc (length xs + n) = omega arith in ap (λ k. drop k (x ∷ (xs ++ new))) s ∙ drop-added xs new n
 
--- a given name at a place, and the names after it
+-- a given name at an index, and the names after it
 pub given-names : (xs : List (List ℕ)) (i : ℕ) → i < length xs → is_given (get_or xs i []) ≡ true → filter is_given (drop i xs) ≡ get_or xs i [] ∷ filter is_given (drop (i + 1) xs)
 given-names xs i lt e = rw (drop_more xs i [] lt, e) refl
 

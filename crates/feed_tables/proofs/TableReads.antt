@@ -49,19 +49,19 @@ header-sound bytes rest raw columns s size none =
     ∙ ap (λ n. first_refusal_from n 1 (map (map trimmed) rest)) (same ∙ sym size)
 
 -- one more record: why it is refused, or that it isn't
-pub row-refused : (all left rest : List (List (List ℕ))) (raw : List (List ℕ)) (columns place : ℕ) (e : TableRefusal) → left ≡ raw ∷ rest
-    → first_refusal all ≡ first_refusal_from columns place (map (map trimmed) left)
-    → (e ≡ refusal.NoMemory) ⊎ (refusal_of columns place (map trimmed raw) ≡ Some e)
+pub row-refused : (all left rest : List (List (List ℕ))) (raw : List (List ℕ)) (columns index : ℕ) (e : TableRefusal) → left ≡ raw ∷ rest
+    → first_refusal all ≡ first_refusal_from columns index (map (map trimmed) left)
+    → (e ≡ refusal.NoMemory) ⊎ (refusal_of columns index (map trimmed raw) ≡ Some e)
     → (e ≡ refusal.NoMemory) ⊎ (first_refusal all ≡ Some e)
-row-refused all left rest raw columns place e s f (inl none) = inl none
-row-refused all left rest raw columns place e s f (inr bad) =
-    inr (f ∙ ap (λ rows. first_refusal_from columns place (map (map trimmed) rows)) s ∙ refusal-first columns place (map trimmed raw) (map (map trimmed) rest) e bad)
+row-refused all left rest raw columns index e s f (inl none) = inl none
+row-refused all left rest raw columns index e s f (inr bad) =
+    inr (f ∙ ap (λ rows. first_refusal_from columns index (map (map trimmed) rows)) s ∙ refusal-first columns index (map trimmed raw) (map (map trimmed) rest) e bad)
 
-pub row-sound : (all left rest : List (List (List ℕ))) (raw : List (List ℕ)) (columns place : ℕ) → left ≡ raw ∷ rest
-    → first_refusal all ≡ first_refusal_from columns place (map (map trimmed) left) → refusal_of columns place (map trimmed raw) ≡ None
-    → first_refusal all ≡ first_refusal_from columns (place + 1) (map (map trimmed) rest)
-row-sound all left rest raw columns place s f none =
-    f ∙ ap (λ rows. first_refusal_from columns place (map (map trimmed) rows)) s ∙ refusal-next columns place (map trimmed raw) (map (map trimmed) rest) none
+pub row-sound : (all left rest : List (List (List ℕ))) (raw : List (List ℕ)) (columns index : ℕ) → left ≡ raw ∷ rest
+    → first_refusal all ≡ first_refusal_from columns index (map (map trimmed) left) → refusal_of columns index (map trimmed raw) ≡ None
+    → first_refusal all ≡ first_refusal_from columns (index + 1) (map (map trimmed) rest)
+row-sound all left rest raw columns index s f none =
+    f ∙ ap (λ rows. first_refusal_from columns index (map (map trimmed) rows)) s ∙ refusal-next columns index (map trimmed raw) (map (map trimmed) rest) none
 
 pub rows-more : (all left rest old new : List (List (List ℕ))) (raw : List (List ℕ)) → left ≡ raw ∷ rest → all ≡ old ++ map (map trimmed) left → new ≡ old ++ map trimmed raw ∷ []
     → all ≡ new ++ map (map trimmed) rest
@@ -77,15 +77,15 @@ header-text-refused bytes text left e at s (inl none) = inl none
 header-text-refused bytes text left e at s (inr (is, (fields, rest, got, bad))) =
     header-refused bytes rest fields e (starts bytes text left rest fields at s got) (text-refused (length fields) 0 (map trimmed fields) e (lit≤ tt) (inr (is, bad)))
 
-pub row-text-refused : (all left : List (List (List ℕ))) (columns place : ℕ) (e : TableRefusal) → place ≤ MAX_ROWS → first_refusal all ≡ first_refusal_from columns place (map (map trimmed) left)
-    → (e ≡ refusal.NoMemory) ⊎ IsNotUtf8 left (place + 1) e → (e ≡ refusal.NoMemory) ⊎ (first_refusal all ≡ Some e)
-row-text-refused all left columns place e high f (inl none) = inl none
-row-text-refused all left columns place e high f (inr (is, (fields, rest, got, bad))) =
-    row-refused all left rest fields columns place e got f (text-refused columns place (map trimmed fields) e high (inr (is, bad)))
+pub row-text-refused : (all left : List (List (List ℕ))) (columns index : ℕ) (e : TableRefusal) → index ≤ MAX_ROWS → first_refusal all ≡ first_refusal_from columns index (map (map trimmed) left)
+    → (e ≡ refusal.NoMemory) ⊎ IsNotUtf8 left (index + 1) e → (e ≡ refusal.NoMemory) ⊎ (first_refusal all ≡ Some e)
+row-text-refused all left columns index e high f (inl none) = inl none
+row-text-refused all left columns index e high f (inr (is, (fields, rest, got, bad))) =
+    row-refused all left rest fields columns index e got f (text-refused columns index (map trimmed fields) e high (inr (is, bad)))
 
 -- no record is left
-pub rows-done : (all left : List (List (List ℕ))) (columns place : ℕ) → left ≡ [] → first_refusal all ≡ first_refusal_from columns place (map (map trimmed) left) → first_refusal all ≡ None
-rows-done all left columns place s f = f ∙ ap (λ rows. first_refusal_from columns place (map (map trimmed) rows)) s ∙ refusal-end columns place
+pub rows-done : (all left : List (List (List ℕ))) (columns index : ℕ) → left ≡ [] → first_refusal all ≡ first_refusal_from columns index (map (map trimmed) left) → first_refusal all ≡ None
+rows-done all left columns index s f = f ∙ ap (λ rows. first_refusal_from columns index (map (map trimmed) rows)) s ∙ refusal-end columns index
 
 -- a pool with the header alone
 pub header-parts : (ends : List ℕ) (pool raw : List (List ℕ)) (size : ℕ) → ends ≡ length raw ∷ [] → pool ≡ map trimmed raw → length raw ≤ size
@@ -102,7 +102,7 @@ pub records-start : (bytes : List ℕ) (rest : List (List (List ℕ))) (raw : Li
     → table_records bytes ≡ old ++ map (map trimmed) rest
 records-start bytes rest raw old s e = ap (map (map trimmed)) s ∙ ap (λ xs. xs ++ map (map trimmed) rest) (sym e)
 
--- one more place leaves the first one
+-- one more index leaves the first one
 pub first-stays : (ends new : List ℕ) (n : ℕ) → 0 < length ends → new ≡ ends ++ n ∷ [] → (0 < length new) × (get_or new 0 0 ≡ get_or ends 0 0)
 first-stays [] new n some e = absurd (omega (arith, some))
 first-stays (end ∷ ends) new n some e = rw e (omega arith, refl)

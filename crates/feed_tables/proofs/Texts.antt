@@ -1,13 +1,13 @@
 -- Blanks at the ends of a field, and what makes it UTF-8.
-use Rattle.std.proofs.Common.{◌≡◌, ◌<◌, ◌+◌, ◌∙◌, ◌⊎◌, inl, inr, ℕ, zero, suc, Bool, List, [], ◌∷◌, ◌++◌, get_or, map, true, false, refl, sym, ap, subst, reverse, arith}
-use Rattle.std.specs.Prelude.{IsUtf8, ◌&&◌, if◌then◌else◌}
+use Rattle.std.proofs.Common.{◌≡◌, ◌<◌, ◌⊎◌, inl, inr, ℕ, zero, suc, Bool, List, [], ◌∷◌, get_or, map, true, false, refl, sym, subst, reverse, arith}
+use Rattle.std.specs.Prelude.{IsUtf8, ◌&&◌}
 use Rattle.std.specs.List.{list_all}
 use Rattle.std.specs.Str.{is_utf8}
 use Rattle.std.proofs.lemmas.Bool.{cases_Bool}
 use Rattle.std.proofs.lemmas.List.{reverse-append, reverse-reverse}
 use Rattle.std.proofs.lemmas.Str.{IsUtf8-append, IsUtf8-from_ascii, IsUtf8-from_is_utf8}
 use Rattle.csv.specs.Records.{AllText}
-use Rattle.feed_tables.specs.Fields.{is_blank, trimmed, without_leading, without_trailing}
+use Rattle.feed_tables.specs.Fields.{is_blank, trimmed, without_leading}
 use Rattle.feed_tables.proofs.Trims.{blank-ascii}
 
 -- a blank is a text by itself

@@ -11,6 +11,3 @@ mod table;
 pub use refusal::{MAX_ROWS, TableRefusal};
 pub use rows::{RowView, Rows};
 pub use table::Table;
-
-#[cfg(test)]
-mod tests;

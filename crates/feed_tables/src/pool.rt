@@ -1,6 +1,7 @@
 // Texts one after the other in one buffer.
 
-ghost use Rattle.std.specs.Prelude.{◌≡◌, ◌+◌, ◌<◌, ◌^◌, ◌++◌, ◌∷◌, [], IfOk, OnErr, OnOk, get_or, length, sum_by};
+ghost use Rattle.std.specs.Prelude.{◌≡◌, ◌+◌, ◌<◌, ◌^◌, ◌++◌, ◌∷◌, [], IfOk, OnErr, OnOk};
+ghost use Rattle.std.specs.Prelude.{get_or, length, sum_by};
 
 use flex_model::NoMemory;
 use std::alloc::Global;
@@ -25,12 +26,12 @@ impl Model for Pool {
     ghost invariant = { λ p. IsCut p.ends.items (string_bytes p.buffer) };
 }
 
-// Where the text at a place starts: at the end of the one before.
-fn start_of(ends: &Vec<u32>, place: usize) -> u32
-    requires { place < length ends.now.items }
-    ensures { result ≡ get_or (0 ∷ ends.now.items) place 0 }
+// Where the text at an index starts: at the end of the one before.
+fn start_of(ends: &Vec<u32>, index: usize) -> u32
+    requires { index < length ends.now.items }
+    ensures { result ≡ get_or (0 ∷ ends.now.items) index 0 }
 {
-    if place == 0 { 0 } else { ends[place - 1] }
+    if index == 0 { 0 } else { ends[index - 1] }
 }
 
 impl Pool {
@@ -51,15 +52,15 @@ impl Pool {
         self.ends.len()
     }
 
-    /// The text at a place, empty past the last one.
-    pub(crate) fn get(&self, place: usize) -> &str
-        ensures { result.now ≡ get_or self.now place [] }
+    /// The text at an index, empty past the last one.
+    pub(crate) fn get(&self, index: usize) -> &str
+        ensures { result.now ≡ get_or self.now index [] }
     {
-        if place >= self.ends.len() {
+        if index >= self.ends.len() {
             return "";
         }
-        let start = start_of(&self.ends, place);
-        let end = self.ends[place];
+        let start = start_of(&self.ends, index);
+        let end = self.ends[index];
         &self.buffer.as_str()[start as usize..end as usize]
     }
 

@@ -1,11 +1,9 @@
 // The records of csv, one after the other.
 
-ghost use Rattle.std.specs.Prelude.{◌≡◌, ◌⊎◌, [], ◌∷◌, ℕ, List, IfErr, IfOk, false, map};
+ghost use Rattle.std.specs.Prelude.{◌≡◌, ◌⊎◌, [], ◌∷◌, Err, IfErr, IfOk, OnErr};
 ghost use Rattle.std.specs.Bool.{MatchBool};
-ghost use Rattle.std.specs.List.{list_all};
-ghost use Rattle.std.specs.Str.{is_utf8};
 ghost use Rattle.csv.specs.Records.{fields_of};
-ghost use Rattle.feed_tables.specs.Fields.{trimmed};
+ghost use Rattle.feed_tables.specs.Left.{BeginsWithNoText, HasFirst};
 ghost use Rattle.feed_tables.specs.Records.{csv_records};
 
 use crate::refusal::TableRefusal;
@@ -42,31 +40,41 @@ impl<'a> RecordReader<'a> {
         RecordReader { reader }
     }
 
-    // Takes the next record, which has this row number, and says whether there was one. csv's
-    // clauses leave room for a fault of the reader underneath, which reads of a slice never have.
+    // Takes the next record, which has this row number, and says whether there was one. Memory is
+    // wanting where it ran out, or where the reader underneath failed, which csv's clauses leave
+    // room for, though reads of a slice never do. Either stops the reader.
     pub(crate) fn next(&mut self, raw: &mut StringRecord, row: u64) -> Result<bool, TableRefusal>
-        ensures found { IfOk result (λ found. MatchBool found (self.old ≡ fields_of raw.new ∷ self.new) (self.old ≡ [])) }
+        ensures found { IfOk result (λ found. MatchBool found
+            (self.old ≡ fields_of raw.new ∷ self.new) (self.old ≡ [])) }
         ensures refused { IfErr result (λ e. (e ≡ TableRefusal.NoMemory)
-            ⊎ ((e ≡ TableRefusal.NotUtf8 row) × ((fields : List (List ℕ)) × (rest : List (List (List ℕ)))
-            × (self.old ≡ fields ∷ rest) × (list_all is_utf8 (map trimmed fields) ≡ false)))) }
+            ⊎ ((e ≡ TableRefusal.NotUtf8 row) × BeginsWithNoText self.old)) }
+        ensures stopped { result ≡ Err TableRefusal.NoMemory → self.new ≡ [] }
     {
         match self.reader.read_record(raw) {
             Ok(found) => Ok(found),
             Err(error) => match error.kind() {
                 ErrorKind::Utf8 { .. } => Err(TableRefusal::NotUtf8 { row }),
-                _ => Err(TableRefusal::NoMemory),
+                ErrorKind::Io(_) => Err(TableRefusal::NoMemory),
+                ErrorKind::OutOfMemory => Err(TableRefusal::NoMemory),
+                _ => unreachable!(),
             },
         }
     }
 
-    // Whether there is a further record, of any bytes.
+    // Whether there is a further record, of any bytes. Memory is wanting as above.
     pub(crate) fn has_next(&mut self, alloc: Global) -> Result<bool, NoMemory>
-        ensures { IfOk result (λ found. MatchBool found ((fields : List (List ℕ)) × (rest : List (List (List ℕ))) × (self.old ≡ fields ∷ rest)) (self.old ≡ [])) }
+        ensures found { IfOk result (λ found. MatchBool found
+            (HasFirst self.old) (self.old ≡ [])) }
+        ensures stopped { OnErr result (self.new ≡ []) }
     {
         let mut raw = ByteRecord::new(alloc);
-        let Ok(found) = self.reader.read_byte_record(&mut raw) else {
-            return Err(NoMemory);
-        };
-        Ok(found)
+        match self.reader.read_byte_record(&mut raw) {
+            Ok(found) => Ok(found),
+            Err(error) => match error.kind() {
+                ErrorKind::Io(_) => Err(NoMemory),
+                ErrorKind::OutOfMemory => Err(NoMemory),
+                _ => unreachable!(),
+            },
+        }
     }
 }

@@ -7,11 +7,12 @@ ghost use Rattle.feed_tables.specs.Records.{rows_of};
 use crate::table::Table;
 use std::marker::Model;
 
-/// The records of a table after its header, in order, which contracts see as the list of those that are left.
+/// The records of a table after its header, in order, which contracts see as the list of those that
+/// are left.
 #[derive(Drop)]
 pub struct Rows<'a> {
     table: &'a Table,
-    place: usize,
+    index: usize,
 }
 
 impl<'a> Model for Rows<'a> {
@@ -20,9 +21,9 @@ impl<'a> Model for Rows<'a> {
 
     ghost Value = { List RowFields };
 
-    ghost view = { λ r. numbered_from (r.place + 1) (drop r.place r.table.now) };
+    ghost view = { λ r. numbered_from (r.index + 1) (drop r.index r.table.now) };
 
-    ghost invariant = { λ r. (0 < r.place) × (r.place ≤ length r.table.now) };
+    ghost invariant = { λ r. (0 < r.index) × (r.index ≤ length r.table.now) };
 }
 
 impl<'a> Rows<'a> {
@@ -30,7 +31,7 @@ impl<'a> Rows<'a> {
         requires { 0 < length table.now }
         ensures { result ≡ rows_of table.now }
     {
-        Rows { table, place: 1 }
+        Rows { table, index: 1 }
     }
 }
 
@@ -45,20 +46,21 @@ impl<'a> Iterator for Rows<'a> {
 
     fn next(&mut self) -> Option<RowView<'a>> {
         let table = self.table;
-        let place = self.place;
-        if place >= table.record_count() {
+        let index = self.index;
+        if index >= table.record_count() {
             return None;
         }
-        self.place += 1;
-        Some(RowView { table, place })
+        self.index += 1;
+        Some(RowView { table, index })
     }
 }
 
-/// A record of a table after its header. It lends its fields from the table's pool, and can't outlive the table.
+/// A record of a table after its header. It lends its fields from the table's pool, and can't
+/// outlive the table.
 #[derive(Drop)]
 pub struct RowView<'a> {
     table: &'a Table,
-    place: usize,
+    index: usize,
 }
 
 impl<'a> Model for RowView<'a> {
@@ -67,25 +69,26 @@ impl<'a> Model for RowView<'a> {
 
     ghost Value = { RowFields };
 
-    ghost view = { λ r. record { number = r.place + 1; fields = get_or r.table.now r.place [] } };
+    ghost view = { λ r. record { number = r.index + 1; fields = get_or r.table.now r.index [] } };
 
-    ghost invariant = { λ r. (0 < r.place) × (r.place < length r.table.now) × (r.place + 1 < 2 ^ 64) };
+    ghost invariant = { λ r. (0 < r.index) × (r.index < length r.table.now)
+        × (r.index + 1 < 2 ^ 64) };
 }
 
 impl<'a> RowView<'a> {
-    /// The field of a column, by the place that `Table::column` gives: empty where the record is too short. It has
-    /// no spaces or tabs at its ends.
+    /// The field of a column, by the index that `Table::column` gives: empty where the record is
+    /// too short. It has no spaces or tabs at its ends.
     pub fn field(&self, column: u32) -> &'a str
         ensures { result.now ≡ value_at self.now.fields column }
     {
         let table = self.table;
-        table.field_at(self.place, column as usize)
+        table.field_at(self.index, column as usize)
     }
 
     /// The row number: the header has the number 1, and each record counts one.
     pub fn number(&self) -> u64
         ensures { result ≡ self.now.number }
     {
-        self.place as u64 + 1
+        self.index as u64 + 1
     }
 }

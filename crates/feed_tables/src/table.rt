@@ -1,13 +1,16 @@
 // Tables.
 
-ghost use Rattle.std.specs.Prelude.{◌≡◌, ◌≢◌, ◌≤◌, ◌<◌, ◌+◌, ◌-◌, ◌^◌, ◌++◌, ◌∷◌, ◌⊎◌, [], IfErr, IfOk, None, OnErr, OnOk, Some, drop, filter, length, map, position, sum_by, true, false, get_or};
+ghost use Rattle.std.specs.Prelude.{◌≡◌, ◌≢◌, ◌≤◌, ◌<◌, ◌+◌, ◌-◌, ◌^◌, ◌++◌, ◌∷◌, ◌⊎◌, []};
+ghost use Rattle.std.specs.Prelude.{true, false, None, Some, IfErr, IfOk, OnErr, OnOk};
+ghost use Rattle.std.specs.Prelude.{drop, filter, get_or, length, map, position, sum_by};
 ghost use Rattle.std.specs.List.{list_all, list_any};
 ghost use Rattle.std.specs.Str.{bytes_eq, is_utf8};
 ghost use Rattle.csv.specs.Records.{fields_of};
-ghost use Rattle.feed_tables.specs.Fields.{trimmed, value_at};
+ghost use Rattle.feed_tables.specs.Fields.{all_trimmed, value_at};
 ghost use Rattle.feed_tables.specs.Parts.{EndAt, parts};
 ghost use Rattle.feed_tables.specs.Records.{header_of, rows_of, table_records};
-ghost use Rattle.feed_tables.specs.Refusals.{first_refusal, has_duplicate, is_given, refusal_of};
+ghost use Rattle.feed_tables.specs.Refusals.{first_refusal, has_duplicate, header_refusal};
+ghost use Rattle.feed_tables.specs.Refusals.{is_given, refusal_of};
 
 use crate::fields::{trim_blanks, without_mark};
 use crate::pool::Pool;
@@ -20,8 +23,9 @@ use std::alloc::Global;
 use std::collections::BTreeMap;
 use std::marker::Model;
 
-/// A table of a feed (GTFS Schedule reference, file requirements): the records of a file's bytes, header first, which
-/// contracts see as the list of their fields. The text of all fields lies in one pool.
+/// A table of a feed (GTFS Schedule reference, file requirements): the records of a file's bytes,
+/// header first, which contracts see as the list of their fields. The text of all fields lies in
+/// one pool.
 #[derive(Drop)]
 pub struct Table {
     pool: Pool,
@@ -43,8 +47,8 @@ impl Model for Table {
 // Adds a record's fields without the blanks around them.
 fn push_fields(pool: &mut Pool, raw: &StringRecord) -> Result<(), NoMemory>
     requires { sum_by length pool.old + sum_by length (fields_of raw.now) < 2 ^ 32 }
-    ensures fields { OnOk result (pool.new ≡ pool.old ++ map trimmed (fields_of raw.now)) }
-    ensures text { OnOk result (list_all is_utf8 (map trimmed (fields_of raw.now)) ≡ true) }
+    ensures fields { OnOk result (pool.new ≡ pool.old ++ all_trimmed (fields_of raw.now)) }
+    ensures text { OnOk result (list_all is_utf8 (all_trimmed (fields_of raw.now)) ≡ true) }
 {
     for field in raw.iter() {
         pool.push(trim_blanks(field))?;
@@ -52,12 +56,12 @@ fn push_fields(pool: &mut Pool, raw: &StringRecord) -> Result<(), NoMemory>
     Ok(())
 }
 
-// Whether a field from this place on isn't empty.
+// Whether a field from this index on isn't empty.
 fn has_given(pool: &Pool, from: usize) -> bool
     ensures { result ≡ list_any is_given (drop from pool.now) }
 {
-    for place in from..pool.len() {
-        if !pool.get(place).is_empty() {
+    for index in from..pool.len() {
+        if !pool.get(index).is_empty() {
             return true;
         }
     }
@@ -91,11 +95,11 @@ fn push_header(
     requires pool { pool.old ≡ [] }
     requires ends { ends.old.items ≡ [] }
     requires room { sum_by length (fields_of raw.now) < 2 ^ 32 }
-    ensures fields { OnOk result (pool.new ≡ map trimmed (fields_of raw.now)) }
+    ensures fields { OnOk result (pool.new ≡ all_trimmed (fields_of raw.now)) }
     ensures ends { OnOk result (ends.new.items ≡ length (fields_of raw.now) ∷ []) }
-    ensures sound { OnOk result (refusal_of (length (fields_of raw.now)) 0 (map trimmed (fields_of raw.now)) ≡ None) }
+    ensures sound { OnOk result (header_refusal (fields_of raw.now) ≡ None) }
     ensures refused { IfErr result (λ e. (e ≡ TableRefusal.NoMemory)
-        ⊎ (refusal_of (length (fields_of raw.now)) 0 (map trimmed (fields_of raw.now)) ≡ Some e)) }
+        ⊎ (header_refusal (fields_of raw.now) ≡ Some e)) }
 {
     push_fields(pool, raw)?;
     let twice = repeats_name(alloc, pool)?;
@@ -106,46 +110,50 @@ fn push_header(
     Ok(())
 }
 
-// Adds a record after the header, which stands at this place and has so many columns.
+// Adds a record after the header, which stands at this index and has so many columns.
 fn push_row(
     pool: &mut Pool,
     ends: &mut Vec<usize>,
     raw: &StringRecord,
     columns: usize,
-    place: u64,
+    index: u64,
 ) -> Result<(), TableRefusal>
-    requires low { 0 < place }
-    requires high { place ≤ MAX_ROWS }
+    requires low { 0 < index }
+    requires high { index ≤ MAX_ROWS }
     requires cut { EndAt 0 ends.old.items (length pool.old) }
     requires room { sum_by length pool.old + sum_by length (fields_of raw.now) < 2 ^ 32 }
-    ensures fields { OnOk result (pool.new ≡ pool.old ++ map trimmed (fields_of raw.now)) }
-    ensures record { OnOk result (parts 0 ends.new.items pool.new ≡ parts 0 ends.old.items pool.old ++ map trimmed (fields_of raw.now) ∷ []) }
+    ensures fields { OnOk result (pool.new ≡ pool.old ++ all_trimmed (fields_of raw.now)) }
+    ensures record { OnOk result (parts 0 ends.new.items pool.new
+        ≡ parts 0 ends.old.items pool.old ++ all_trimmed (fields_of raw.now) ∷ []) }
     ensures ends { OnOk result (ends.new.items ≡ ends.old.items ++ length pool.new ∷ []) }
     ensures cut { OnOk result (EndAt 0 ends.new.items (length pool.new)) }
-    ensures sound { OnOk result (refusal_of columns place (map trimmed (fields_of raw.now)) ≡ None) }
+    ensures sound { OnOk result
+        (refusal_of columns index (all_trimmed (fields_of raw.now)) ≡ None) }
     ensures refused { IfErr result (λ e. (e ≡ TableRefusal.NoMemory)
-        ⊎ (refusal_of columns place (map trimmed (fields_of raw.now)) ≡ Some e)) }
+        ⊎ (refusal_of columns index (all_trimmed (fields_of raw.now)) ≡ Some e)) }
 {
     let start = pool.len();
     push_fields(pool, raw)?;
     let width = pool.len() - start;
     if columns < width && has_given(pool, start + columns) {
-        return Err(TableRefusal::RowTooLong { row: place + 1 });
+        return Err(TableRefusal::RowTooLong { row: index + 1 });
     }
     ends.push(pool.len())?;
     Ok(())
 }
 
 impl Table {
-    /// The table of a file's bytes, of which there are fewer than 2^32, or the first rule that they break: `NoHeader`
-    /// where there is no record, and else, record by record from the header on, `TooManyRows`, `NotUtf8`,
-    /// `DuplicateColumn` and `RowTooLong`. It goes over the bytes once. The pool has as many bytes as the file; beside it a
-    /// field takes 4 bytes and a record 8, and at most three times that while the lists of their ends grow.
+    /// The table of a file's bytes, of which there are fewer than 2^32, or the first rule that they
+    /// break: `NoHeader` where there is no record, and else, record by record from the header on,
+    /// `TooManyRows`, `NotUtf8`, `DuplicateColumn` and `RowTooLong`. It goes over the bytes once.
+    /// The pool has as many bytes as the file; beside it a field takes 4 bytes and a record 8, and
+    /// at most three times that while the lists of their ends grow.
     pub fn read(alloc: Global, bytes: &[u8]) -> Result<Table, TableRefusal>
         requires { length bytes.now < 2 ^ 32 }
         ensures records { IfOk result (λ table. table ≡ table_records bytes.now) }
         ensures accepted { OnOk result (first_refusal (table_records bytes.now) ≡ None) }
-        ensures refused { IfErr result (λ e. (e ≡ TableRefusal.NoMemory) ⊎ (first_refusal (table_records bytes.now) ≡ Some e)) }
+        ensures refused { IfErr result (λ e. (e ≡ TableRefusal.NoMemory)
+            ⊎ (first_refusal (table_records bytes.now) ≡ Some e)) }
     {
         let mut left = RecordReader::new(alloc, without_mark(bytes));
         let mut raw = StringRecord::new(alloc);
@@ -156,11 +164,11 @@ impl Table {
         let mut pool = Pool::with_room(alloc, bytes.len())?;
         let mut ends = Vec::new(alloc);
         push_header(alloc, &mut pool, &mut ends, &raw)?;
-        for place in 1..MAX_ROWS + 1 {
-            if !left.next(&mut raw, place + 1)? {
+        for index in 1..MAX_ROWS + 1 {
+            if !left.next(&mut raw, index + 1)? {
                 return Ok(Table { pool, ends });
             }
-            push_row(&mut pool, &mut ends, &raw, columns, place)?;
+            push_row(&mut pool, &mut ends, &raw, columns, index)?;
         }
         if left.has_next(alloc)? {
             return Err(TableRefusal::TooManyRows);
@@ -168,7 +176,7 @@ impl Table {
         Ok(Table { pool, ends })
     }
 
-    /// The place of the column with this name, from 0, or `None` where the header lacks it.
+    /// The index of the column with this name, from 0, or `None` where the header lacks it.
     pub fn column(&self, name: &str) -> Option<u32>
         requires { name.now ≢ [] }
         ensures { result ≡ position (bytes_eq name.now) (header_of self.now) }
@@ -197,14 +205,14 @@ impl Table {
         self.ends.len()
     }
 
-    // The field of a record after the header, at a place in it.
-    pub(crate) fn field_at(&self, place: usize, column: usize) -> &str
-        requires low { 0 < place }
-        requires high { place < length self.now }
-        ensures { result.now ≡ value_at (get_or self.now place []) column }
+    // The field of a record after the header, at an index in it.
+    pub(crate) fn field_at(&self, index: usize, column: usize) -> &str
+        requires low { 0 < index }
+        requires high { index < length self.now }
+        ensures { result.now ≡ value_at (get_or self.now index []) column }
     {
-        let start = self.ends[place - 1];
-        let width = self.ends[place] - start;
+        let start = self.ends[index - 1];
+        let width = self.ends[index] - start;
         if column >= width {
             return "";
         }

@@ -16,5 +16,4 @@ pub mod ShapeLemmas
 pub mod SpellingLemmas
 pub mod TextLemmas
 pub mod TimeLemmas
-pub mod UnescapeLemmas
 pub mod WordLemmas

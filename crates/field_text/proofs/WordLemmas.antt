@@ -7,12 +7,11 @@ use Rattle.std.specs.List.{list_all}
 use Rattle.std.proofs.lemmas.Bool.{and_from, and_parts, cases_Bool, ltb-true}
 use Rattle.std.proofs.lemmas.Bool.Decides.{nat_tests}
 use Rattle.std.proofs.lemmas.List.Folds.{list_all-append}
-use Rattle.field_text.specs.Grammars.{escape, escaped_byte, hex_digit, is_plain, lies_in}
+use Rattle.field_text.specs.Grammars.{escape, escaped_byte, hex_digit, stands_for_itself, lies_in}
 use Rattle.field_text.specs.Texts.{clock_text, date_text, day_of_month, last_digits, moment_text, month_of, year_of}
 use Rattle.field_text.proofs.DecimalLemmas.{decimal-are_digits}
-use Rattle.field_text.proofs.EscapeLemmas.{escaped_byte-other, escaped_byte-plain}
+use Rattle.field_text.proofs.EscapeLemmas.{escaped_byte-other, escaped_byte-plain, utf8-bytes}
 use Rattle.field_text.proofs.SpellingLemmas.{last_digits-are_digits}
-use Rattle.field_text.proofs.UnescapeLemmas.{utf8-bytes}
 
 -- a byte from ! to ~
 abbrev pub is_graphic : ℕ → Bool
@@ -73,7 +72,7 @@ hex_digit-graphic n small = grind (arith, nat_tests)
 
 escaped_byte-graphic : (b : ℕ) → b < 256 → list_all is_graphic (escaped_byte b) ≡ true
 escaped_byte-graphic b small =
-    elim (cases_Bool (is_plain b)) [
+    elim (cases_Bool (stands_for_itself b)) [
       | inl plain ↦ ap (list_all is_graphic) (escaped_byte-plain b plain) ∙ and_from _ _ (and_parts (lies_in 33 126 b) _ plain).0 refl
       | inr other ↦ ap (list_all is_graphic) (escaped_byte-other b other)
           ∙ and_from _ _ (hex_digit-graphic (b / 16) (omega arith)) (and_from _ _ (hex_digit-graphic (b % 16) (omega arith)) refl)

@@ -1,5 +1,9 @@
--- The kinds of fields: which texts are of a kind, and the values of those. A text that isn't of the kind has no value.
-use Rattle.std.specs.Prelude.{ℕ, ◌+◌, ◌-◌, ◌*◌, ◌/◌, ◌%◌, ◌^◌, ◌==◌, nat_lt, nat_le, Bool, true, false, not, ◌&&◌, ◌||◌, if◌then◌else◌, ℤ, pos, ◌+ℤ◌, ◌-ℤ◌, ◌*ℤ◌, neg_ℤ, int_le, unsigned_abs, ◌≡◌, ◌≢◌, List, [], ◌∷◌, ◌++◌, length, Option, Some, None, slice_range, codes, IsUtf8}
+-- The kinds of fields: which texts are of a kind, and the values of those. A text that isn't of the
+-- kind has no value.
+use Rattle.std.specs.Prelude.{ℕ, ◌+◌, ◌-◌, ◌*◌, ◌/◌, ◌%◌, ◌^◌, ◌==◌, nat_lt, nat_le, ◌≡◌, ◌≢◌}
+use Rattle.std.specs.Prelude.{Bool, true, false, not, ◌&&◌, ◌||◌, if◌then◌else◌, Option, Some, None}
+use Rattle.std.specs.Prelude.{ℤ, pos, ◌+ℤ◌, ◌-ℤ◌, ◌*ℤ◌, neg_ℤ, int_le, unsigned_abs}
+use Rattle.std.specs.Prelude.{List, [], ◌∷◌, ◌++◌, length, slice_range, codes, IsUtf8}
 use Rattle.std.specs.Char.{is_ascii_digit}
 use Rattle.std.specs.List.{after_first, before_first, flat_map, fold, list_all, list_any}
 use Rattle.std.specs.Str.{byte}
@@ -69,7 +73,8 @@ date text =
     let year = number (slice_range text 0 4) in
     let month = number (slice_range text 4 6) in
     let day = number (slice_range text 6 8) in
-    some_if (has_digits 8 8 text && is_civil 1 9999 year month day) (days_from_civil (pos year) month day)
+    some_if (has_digits 8 8 text && is_civil 1 9999 year month day)
+    (days_from_civil (pos year) month day)
 
 -- whether a byte is a digit where a 0 is expected, and elsewhere the expected byte
 abbrev pub is_as_expected : ℕ → ℕ → Bool
@@ -82,7 +87,8 @@ is_shaped [] (b ∷ text) = false
 is_shaped (p ∷ pattern) [] = false
 is_shaped (p ∷ pattern) (b ∷ text) = is_as_expected p b && is_shaped pattern text
 
--- a moment as YYYY-MM-DDTHH:MM:SSZ, in a year from the first to the last, in seconds since 1970-01-01T00:00:00Z
+-- a moment as YYYY-MM-DDTHH:MM:SSZ, in a year from the first to the last, in seconds since
+-- 1970-01-01T00:00:00Z
 abbrev pub moment : ℕ → ℕ → List ℕ → Option ℤ
 moment first last text =
     let year = number (slice_range text 0 4) in
@@ -93,7 +99,8 @@ moment first last text =
     let seconds = number (slice_range text 17 19) in
     some_if (is_shaped (codes "0000-00-00T00:00:00Z") text && is_civil first last year month day
     && nat_le hours 23 && nat_le minutes 59 && nat_le seconds 59)
-    ((pos 86400 *ℤ days_from_civil (pos year) month day) +ℤ pos (3600 * hours + 60 * minutes + seconds))
+    ((pos 86400 *ℤ days_from_civil (pos year) month day)
+    +ℤ pos (3600 * hours + 60 * minutes + seconds))
 
 abbrev pub is_sign : ℕ → Bool
 is_sign b = (b == byte "+") || (b == byte "-")
@@ -120,12 +127,15 @@ signed is_negative n = if is_negative then neg_ℤ (pos n) else pos n
 
 -- a number times a power of ten, cut to a whole number
 abbrev pub scaled : ℕ → ℤ → ℕ
-scaled n power = if int_le (pos 0) power then n * 10 ^ unsigned_abs power else n / 10 ^ unsigned_abs power
+scaled n power =
+    let factor = 10 ^ unsigned_abs power in
+    if int_le (pos 0) power then n * factor else n / factor
 
--- A degree, in units of 10^-15 degree cut towards zero, whose size is at most the greatest. The text has at most 64
--- bytes: an optional sign, digits with or without a point among, before or after them, and maybe an exponent of one
--- to four digits with an optional sign. Its value is the number of all its digits times ten to the exponent, less one
--- for each digit after the point; 15 more are for the unit.
+-- A degree, in units of 10^-15 degree cut towards zero, whose size is at most the greatest. The
+-- text has at most 64 bytes: an optional sign, digits with or without a point among, before or
+-- after them, and maybe an exponent of one to four digits with an optional sign. Its value is the
+-- number of all its digits times ten to the exponent, less one for each digit after the point; 15
+-- more are for the unit.
 abbrev pub degree_within : ℤ → List ℕ → Option ℤ
 degree_within greatest text =
     let has_exponent = list_any is_exponent_mark text in
@@ -133,7 +143,8 @@ degree_within greatest text =
     let exponent = after_first is_exponent_mark text in
     let whole = before_first is_point (unsigned numeral) in
     let fraction = after_first is_point (unsigned numeral) in
-    let power = (signed (is_minus exponent) (number (unsigned exponent)) -ℤ pos (length fraction)) +ℤ pos 15 in
+    let shift = signed (is_minus exponent) (number (unsigned exponent)) in
+    let power = (shift -ℤ pos (length fraction)) +ℤ pos 15 in
     let size = scaled (number (whole ++ fraction)) power in
     some_if (nat_le (length text) 64 && has_digits 1 64 (whole ++ fraction)
     && (not has_exponent || has_digits 1 4 (unsigned exponent)) && int_le (pos size) greatest)
@@ -148,12 +159,14 @@ abbrev pub hex_digit : ℕ → ℕ
 hex_digit n = if nat_lt n 10 then byte "0" + n else byte "A" + (n - 10)
 
 -- a byte from ! to ~ other than %
-abbrev pub is_plain : ℕ → Bool
-is_plain b = lies_in (byte "!") (byte "~") b && not (b == byte "%")
+abbrev pub stands_for_itself : ℕ → Bool
+stands_for_itself b = lies_in (byte "!") (byte "~") b && not (b == byte "%")
 
--- a plain byte as it is, and each other byte as % and two hexadecimal digits
+-- a byte that stands for itself, and each other byte as % and two hexadecimal digits
 abbrev pub escaped_byte : ℕ → List ℕ
-escaped_byte b = if is_plain b then b ∷ [] else byte "%" ∷ hex_digit (b / 16) ∷ hex_digit (b % 16) ∷ []
+escaped_byte b =
+    if stands_for_itself b then b ∷ []
+    else byte "%" ∷ hex_digit (b / 16) ∷ hex_digit (b % 16) ∷ []
 
 -- the escape of an id
 abbrev pub escape : List ℕ → List ℕ

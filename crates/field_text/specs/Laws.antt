@@ -10,7 +10,8 @@ DatesAreReadBack = (day : ℤ) → IsPrintableDay day → date (date_text day) �
 
 -- A day has one spelling: a text that is read as a day is what is printed of it.
 abbrev pub DatesHaveOneSpelling : Type 0
-DatesHaveOneSpelling = (text : List ℕ) (day : ℤ) → date text ≡ Some day → IsPrintableDay day × (text ≡ date_text day)
+DatesHaveOneSpelling = (text : List ℕ) (day : ℤ) → date text ≡ Some day
+    → IsPrintableDay day × (text ≡ date_text day)
 
 -- A printed moment is read back.
 abbrev pub MomentsAreReadBack : Type 0
@@ -23,13 +24,16 @@ MomentsHaveOneSpelling = (text : List ℕ) (m : ℤ) → moment 1980 2209 text �
 
 -- A printed number is read back as a count.
 abbrev pub NumbersAreReadBack : Type 0
-NumbersAreReadBack = (n greatest : ℕ) → n ≤ greatest → n < 2 ^ 64 → count greatest (decimal n) ≡ Some n
+NumbersAreReadBack = (n greatest : ℕ) → n ≤ greatest → n < 2 ^ 64
+    → count greatest (decimal n) ≡ Some n
 
 -- No two ids have one escape.
 abbrev pub EscapesAreOfOneId : Type 0
-EscapesAreOfOneId = (text id other : List ℕ) → IsEscapeOf text id → IsEscapeOf text other → id ≡ other
+EscapesAreOfOneId = (text id other : List ℕ) → IsEscapeOf text id → IsEscapeOf text other
+    → id ≡ other
 
--- The escape of an id is unescaped as that id: it is no bad escape, and nothing else is put at the end of the old text.
+-- The escape of an id is unescaped as that id: it is no bad escape, and nothing else is put at the
+-- end of the old text.
 abbrev pub EscapesAreReadBack : Type 0
 EscapesAreReadBack = (id old new : List ℕ) → id ≢ [] → IsUtf8 id
     → ¬ (IsNoEscape (escape id)) × (Unescapes (escape id) old new → new ≡ old ++ id)

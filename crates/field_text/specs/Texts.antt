@@ -1,5 +1,6 @@
 -- How dates and moments are printed.
-use Rattle.std.specs.Prelude.{ℕ, zero, suc, ◌+◌, ◌/◌, ◌%◌, ℤ, pos, neg_ℤ, ◌-ℤ◌, int_le, ◌≤ℤ◌, unsigned_abs, List, [], ◌∷◌, ◌++◌, codes, Bool, if◌then◌else◌}
+use Rattle.std.specs.Prelude.{ℕ, zero, suc, ◌+◌, ◌/◌, ◌%◌, ℤ, pos, neg_ℤ, ◌-ℤ◌, int_le, ◌≤ℤ◌}
+use Rattle.std.specs.Prelude.{unsigned_abs, List, [], ◌∷◌, ◌++◌, codes, Bool, if◌then◌else◌}
 use Rattle.std.specs.Int.{int_div_euclid, int_rem_euclid}
 use Rattle.std.specs.Str.{byte}
 use Rattle.jiff_core.specs.Calendar.{days_from_civil}
@@ -38,16 +39,19 @@ last_digits (suc width) n = last_digits width (n / 10) ++ (byte "0" + n % 10) �
 
 -- a day as YYYYMMDD
 unfoldable pub date_text : ℤ → List ℕ
-date_text day = last_digits 4 (year_of day) ++ last_digits 2 (month_of day) ++ last_digits 2 (day_of_month day)
+date_text day =
+    last_digits 4 (year_of day) ++ last_digits 2 (month_of day) ++ last_digits 2 (day_of_month day)
 
 -- a time of the day as HH:MM:SS
 abbrev pub clock_text : ℕ → List ℕ
 clock_text second =
-    last_digits 2 (second / 3600) ++ codes ":" ++ last_digits 2 (second / 60 % 60) ++ codes ":" ++ last_digits 2 (second % 60)
+    last_digits 2 (second / 3600) ++ codes ":" ++ last_digits 2 (second / 60 % 60) ++ codes ":"
+    ++ last_digits 2 (second % 60)
 
 -- a moment as YYYY-MM-DDTHH:MM:SSZ
 unfoldable pub moment_text : ℤ → List ℕ
 moment_text moment =
     let day = int_div_euclid moment (pos 86400) in
-    last_digits 4 (year_of day) ++ codes "-" ++ last_digits 2 (month_of day) ++ codes "-" ++ last_digits 2 (day_of_month day)
+    last_digits 4 (year_of day) ++ codes "-" ++ last_digits 2 (month_of day) ++ codes "-"
+    ++ last_digits 2 (day_of_month day)
     ++ codes "T" ++ clock_text (unsigned_abs (int_rem_euclid moment (pos 86400))) ++ codes "Z"

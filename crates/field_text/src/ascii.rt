@@ -1,3 +1,5 @@
+// Texts of ASCII bytes.
+
 ghost use Rattle.std.specs.Prelude.{◌≡◌, IsAscii};
 
 use std::str;

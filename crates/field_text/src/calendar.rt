@@ -1,5 +1,8 @@
+// Day numbers as dates of the calendar, and the digits that are printed of them.
+
 ghost use Rattle.std.specs.Prelude.{◌≡◌, ◌≤◌, ◌<◌};
-ghost use Rattle.field_text.specs.Texts.{IsPrintableDay, day_of_month, last_digits, month_of, year_of};
+ghost use Rattle.field_text.specs.Texts.{IsPrintableDay, last_digits};
+ghost use Rattle.field_text.specs.Texts.{day_of_month, month_of, year_of};
 
 use jiff_core::civil::Date;
 

@@ -1,3 +1,5 @@
+// Counts: digits, and nothing else.
+
 ghost use Rattle.std.specs.Prelude.{◌≡◌};
 ghost use Rattle.std.specs.Result.{result_ok};
 ghost use Rattle.field_text.specs.Grammars.{count};
@@ -8,8 +10,8 @@ use crate::digits::digits_within;
 #[derive(Clone, Copy, Debug, PartialEq, Eq)]
 pub struct BadNumber;
 
-/// Reads a count: one to twenty digits, leading zeros allowed, of a number up to the greatest. Every other text is a
-/// `BadNumber`.
+/// Reads a count: one to twenty digits, leading zeros allowed, of a number up to the greatest.
+/// Every other text is a `BadNumber`.
 pub fn read_count(text: &str, greatest: u64) -> Result<u64, BadNumber>
     ensures { result_ok result ≡ count greatest text.now }
 {

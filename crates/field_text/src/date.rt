@@ -1,3 +1,5 @@
+// Dates as GTFS writes them.
+
 ghost use Rattle.std.specs.Prelude.{◌≡◌, ◌&&◌, ◌++◌, ◌≤◌, IfOk, OnErr, OnOk, pos};
 ghost use Rattle.std.specs.Result.{result_ok};
 ghost use Rattle.jiff_core.specs.Calendar.{days_from_civil, days_in_month};
@@ -29,7 +31,8 @@ fn civil_day(year: u64, month: u64, day: u64) -> Option<i32>
     }
 }
 
-// The days since 1970-01-01 of a date whose parts have digits alone, in a year from the first to the last.
+// The days since 1970-01-01 of a date whose parts have digits alone, in a year from the first to
+// the last.
 pub(crate) fn day_of_parts(
     first: u64,
     last: u64,
@@ -41,7 +44,8 @@ pub(crate) fn day_of_parts(
     ensures { let year = number year.now in
         let month = number month.now in
         let day = number day.now in
-        result ≡ some_if (is_civil first last year month day) (days_from_civil (pos year) month day) }
+        result ≡ some_if (is_civil first last year month day)
+        (days_from_civil (pos year) month day) }
 {
     let year = number_after(0, year, last)?;
     let month = number_after(0, month, 12)?;
@@ -74,8 +78,8 @@ fn date_bytes(day: i32) -> [u8; 8]
     [y0, y1, y2, y3, m0, m1, d0, d1]
 }
 
-/// Reads a date of the years 0001 to 9999 as YYYYMMDD, as GTFS writes dates, in days since 1970-01-01. Every other
-/// text is a `BadDate`.
+/// Reads a date of the years 0001 to 9999 as YYYYMMDD, as GTFS writes dates, in days since
+/// 1970-01-01. Every other text is a `BadDate`.
 pub fn read_date(text: &str) -> Result<i32, BadDate>
     ensures value { result_ok result ≡ date text.now }
     ensures bound { IfOk result (λ day. IsPrintableDay day) }

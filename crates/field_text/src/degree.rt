@@ -1,7 +1,12 @@
-ghost use Rattle.std.specs.Prelude.{◌≡◌, ◌==◌, ◌+◌, ◌-◌, ◌*◌, ◌^◌, ◌<◌, ◌≤◌, ◌&&◌, ◌||◌, ◌++◌, [], IfOk, IfSome, if◌then◌else◌, length, nat_le, not, pos, position, take, ◌-ℤ◌, ◌+ℤ◌, ◌≤ℤ◌, unsigned_abs, false};
+// Degrees, read exactly and cut towards zero.
+
+ghost use Rattle.std.specs.Prelude.{◌≡◌, ◌==◌, ◌+◌, ◌-◌, ◌*◌, ◌^◌, ◌<◌, ◌≤◌, ◌-ℤ◌, ◌+ℤ◌, ◌≤ℤ◌, pos};
+ghost use Rattle.std.specs.Prelude.{unsigned_abs, nat_le, false, not, ◌&&◌, ◌||◌, if◌then◌else◌};
+ghost use Rattle.std.specs.Prelude.{[], ◌++◌, length, position, take, IfOk, IfSome};
 ghost use Rattle.std.specs.Result.{result_ok};
 ghost use Rattle.field_text.specs.Numerals;
-ghost use Rattle.field_text.specs.Grammars.{degree_within, has_digits, is_exponent_mark, is_minus, number, scaled, signed, some_if, unsigned};
+ghost use Rattle.field_text.specs.Grammars.{degree_within, has_digits, is_exponent_mark, is_minus};
+ghost use Rattle.field_text.specs.Grammars.{number, scaled, signed, some_if, unsigned};
 
 use crate::digits::{digits_within, is_digits, number_after, with_zeros};
 use crate::numeral::{Numeral, numeral_of};
@@ -10,8 +15,8 @@ use crate::numeral::{Numeral, numeral_of};
 #[derive(Clone, Copy, Debug, PartialEq, Eq)]
 pub struct BadCoordinate;
 
-// How many decimal places a degree is kept to.
-const PLACES: usize = 15;
+// How many decimals of a degree are kept.
+const DECIMALS: usize = 15;
 
 // The size of an exponent, which is 0 where none is given.
 fn exponent_size(is_given: bool, digits: &[u8]) -> Option<u64>
@@ -27,19 +32,19 @@ fn exponent_size(is_given: bool, digits: &[u8]) -> Option<u64>
     }
 }
 
-// How many digits of a numeral count, from its first on, where those past its end are zeros: those before
-// the point, moved by the exponent, and the places after it.
+// How many digits of a numeral count, from its first on, where those past its end are zeros: those
+// before the point, moved by the exponent, and the decimals after it.
 fn kept_digits(whole_len: usize, is_small: bool, exponent: u64) -> usize
     requires whole { whole_len ≤ 64 }
     requires exponent { exponent ≤ 9999 }
     ensures { result ≡ (if is_small then whole_len + 15 - exponent else whole_len + 15 + exponent) }
 {
-    let places = whole_len + PLACES;
+    let digits = whole_len + DECIMALS;
     let exponent = exponent as usize;
     if is_small {
-        places.saturating_sub(exponent)
+        digits.saturating_sub(exponent)
     } else {
-        places + exponent
+        digits + exponent
     }
 }
 
@@ -120,11 +125,11 @@ fn degree_of(text: &[u8], greatest: u64) -> Option<i64>
     degree_of_numeral(&numeral_of(text), greatest)
 }
 
-/// Reads a degree in units of 10^-15 degree, cut towards zero, whose size is at most the greatest in the same
-/// unit: with the greatest value 180 degrees, that is 180,000,000,000,000,000. The text has at most 64 bytes: an
-/// optional sign, digits with or without a point among, before or after them, and maybe `e` or `E` with an
-/// exponent of one to four digits and an optional sign. Every other text, and every text where the greatest is
-/// negative, is a `BadCoordinate`.
+/// Reads a degree in units of 10^-15 degree, cut towards zero, whose size is at most the greatest
+/// in the same unit: with the greatest value 180 degrees, that is 180,000,000,000,000,000. The text
+/// has at most 64 bytes: an optional sign, digits with or without a point among, before or after
+/// them, and maybe `e` or `E` with an exponent of one to four digits and an optional sign. Every
+/// other text, and every text where the greatest is negative, is a `BadCoordinate`.
 pub fn read_degree(text: &str, greatest: i64) -> Result<i64, BadCoordinate>
     ensures value { result_ok result ≡ degree_within greatest text.now }
     ensures bound { IfOk result (λ degree. pos (unsigned_abs degree) ≤ℤ greatest) }

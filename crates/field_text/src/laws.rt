@@ -1,8 +1,9 @@
+// Laws of the definitions alone: each function has an empty body, and its contract is the law.
+
 ghost use Rattle.field_text.specs.Laws.{DatesAreReadBack, DatesHaveOneSpelling};
 ghost use Rattle.field_text.specs.Laws.{EscapesAreOfOneId, EscapesAreReadBack};
-ghost use Rattle.field_text.specs.Laws.{MomentsAreReadBack, MomentsHaveOneSpelling, NumbersAreReadBack};
-
-// Laws of the definitions alone: each function has an empty body, and its contract is the law.
+ghost use Rattle.field_text.specs.Laws.{MomentsAreReadBack, MomentsHaveOneSpelling};
+ghost use Rattle.field_text.specs.Laws.{NumbersAreReadBack};
 
 /// What is printed of a day is read back as that day.
 pub fn dates_are_read_back()

@@ -1,4 +1,5 @@
-//! The fields of feeds, times and queries: their grammars, their readers, and the texts that are printed.
+//! The fields of feeds, times and queries: their grammars, their readers, and the texts that are
+//! printed.
 #![tactic(auto)]
 
 mod ascii;
@@ -13,8 +14,6 @@ mod moment;
 mod number;
 mod numeral;
 mod parts;
-#[cfg(test)]
-mod tests;
 mod time;
 mod unescape;
 

@@ -1,4 +1,7 @@
-ghost use Rattle.std.specs.Prelude.{◌≡◌, ◌+◌, ◌*◌, ◌&&◌, ◌++◌, ◌<◌, IfOk, OnErr, OnOk, length, nat_le};
+// Moments in UTC.
+
+ghost use Rattle.std.specs.Prelude.{◌≡◌, ◌+◌, ◌*◌, ◌&&◌, ◌++◌, ◌<◌, length, nat_le};
+ghost use Rattle.std.specs.Prelude.{IfOk, OnErr, OnOk};
 ghost use Rattle.std.specs.Bool.{OnTrue};
 ghost use Rattle.std.specs.Result.{result_ok};
 ghost use Rattle.field_text.specs.Grammars as Grammars;
@@ -95,8 +98,8 @@ fn moment_bytes(moment: Moment) -> [u8; 20]
     ]
 }
 
-/// Reads a moment of the years 1980 to 2209 as YYYY-MM-DDTHH:MM:SSZ, in seconds since 1970-01-01T00:00:00Z. Every
-/// other text is a `BadMoment`.
+/// Reads a moment of the years 1980 to 2209 as YYYY-MM-DDTHH:MM:SSZ, in seconds since
+/// 1970-01-01T00:00:00Z. Every other text is a `BadMoment`.
 pub fn read_moment(text: &str) -> Result<Moment, BadMoment>
     ensures value { result_ok result ≡ moment 1980 2209 text.now }
     ensures bound { IfOk result (λ m. IsPrintableMoment m) }

@@ -1,3 +1,5 @@
+// Numbers as they are printed.
+
 ghost use Rattle.std.specs.Prelude.{◌≡◌, ◌++◌, OnErr, OnOk, decimal};
 
 use flex_model::{NoMemory, Text};

@@ -1,11 +1,14 @@
-ghost use Rattle.std.specs.Prelude.{◌≡◌, ◌+◌, ◌≤◌, [], ℤ, None, if◌then◌else◌, length, nat_le, position, false};
+// The parts of a decimal numeral.
+
+ghost use Rattle.std.specs.Prelude.{◌≡◌, ◌+◌, ◌≤◌, ℤ, nat_le, false, if◌then◌else◌, None};
+ghost use Rattle.std.specs.Prelude.{[], length, position};
 ghost use Rattle.field_text.specs.Numerals;
 ghost use Rattle.field_text.specs.Grammars.{degree_within, is_exponent_mark, is_minus, unsigned};
 
 use crate::parts::{split_at, split_at_byte};
 
-// A numeral in parts: its sign, the digits before the point and after it, and the sign and the digits of its
-// exponent. Whether these are digits is not yet known.
+// A numeral in parts: its sign, the digits before the point and after it, and the sign and the
+// digits of its exponent. Whether these are digits is not yet known.
 #[derive(Clone, Copy)]
 pub(crate) struct Numeral<'a> {
     pub(crate) is_negative: bool,
@@ -16,8 +19,8 @@ pub(crate) struct Numeral<'a> {
     pub(crate) exponent: &'a [u8],
 }
 
-// The place of the mark of an exponent.
-fn place_of_mark(text: &[u8]) -> Option<usize>
+// The index of the mark of an exponent.
+fn index_of_mark(text: &[u8]) -> Option<usize>
     ensures { result ≡ position is_exponent_mark text.now }
 {
     text.iter().position(|byte| *byte == b'e' || *byte == b'E')
@@ -42,7 +45,7 @@ pub(crate) fn numeral_of(text: &[u8]) -> Numeral<'_>
     ensures short { length result.whole.now + length result.fraction.now ≤ length text.now }
     ensures given { result.has_exponent ≡ false → result.exponent.now ≡ [] }
 {
-    let mark = place_of_mark(text);
+    let mark = index_of_mark(text);
     let (numeral, exponent) = split_at(text, mark);
     let (is_negative, mantissa) = split_sign(numeral);
     let (whole, fraction) = split_at_byte(mantissa, b'.');

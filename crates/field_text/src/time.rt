@@ -1,3 +1,5 @@
+// Times of a service day as GTFS writes them.
+
 ghost use Rattle.std.specs.Prelude.{◌≡◌, ◌==◌, ◌<◌, IfOk};
 ghost use Rattle.std.specs.List.{after_first, before_first};
 ghost use Rattle.std.specs.Result.{result_ok};
@@ -22,8 +24,8 @@ fn seconds_of(text: &[u8]) -> Option<u32>
     Some((3_600 * hours + 60 * minutes + seconds) as u32)
 }
 
-/// Reads a time of a service day, as GTFS writes times, in seconds after its begin: hours of one to three digits,
-/// minutes and seconds of two, up to 167:59:59. Every other text is a `BadTime`.
+/// Reads a time of a service day, as GTFS writes times, in seconds after its begin: hours of one to
+/// three digits, minutes and seconds of two, up to 167:59:59. Every other text is a `BadTime`.
 pub fn read_time(text: &str) -> Result<u32, BadTime>
     ensures value { result_ok result ≡ time text.now }
     ensures bound { IfOk result (λ seconds. seconds < 604_800) }

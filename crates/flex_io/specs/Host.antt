@@ -1,5 +1,5 @@
--- What the system's files and streams show of themselves, and what reads and writes do where the bytes
--- are known. The rules are this project's own.
+-- What the system's files and streams show of themselves, and what reads and writes do where the
+-- bytes are known. The rules are this project's own.
 use Rattle.std.specs.Prelude.{◌≡◌, ℕ, ◌≤◌, ◌<◌, List, ◌++◌, length, Option, IfSome}
 use Rattle.std.specs.Io.KnownBytes.{Appends, Consumes}
 use Rattle.flex_io.specs.Outside.{IsBeginning}
@@ -20,7 +20,8 @@ stream_of sink = sink.stream
 
 -- the bytes after are those before and then some more, which are within the limit, and where the
 -- reader's bytes are known, all that it had left
-pub record AppendsRest (limit : ℕ) (remaining : Option (List ℕ)) (before after : List ℕ) : Type 0 where
+pub record AppendsRest (limit : ℕ) (remaining : Option (List ℕ)) (before after : List ℕ)
+    : Type 0 where
   pub bytes : List ℕ
   pub within_limit : length bytes ≤ limit
   pub appended : after ≡ before ++ bytes
@@ -36,8 +37,10 @@ AddsSome before after = (bytes : List ℕ) × (after ≡ before ++ bytes)
 
 -- a reader has lost some of its first bytes, at most so many
 abbrev pub TakesAtMost : ℕ → Option (List ℕ) → Option (List ℕ) → Type 0
-TakesAtMost most before after = (taken : List ℕ) × (length taken ≤ most) × Consumes before after taken
+TakesAtMost most before after =
+    (taken : List ℕ) × (length taken ≤ most) × Consumes before after taken
 
 -- a stream has gained a beginning of the piece
 abbrev pub AppendsBeginning : List ℕ → Option (List ℕ) → Option (List ℕ) → Type 0
-AppendsBeginning piece before after = (taken : List ℕ) × IsBeginning piece taken × Appends before after taken
+AppendsBeginning piece before after =
+    (taken : List ℕ) × IsBeginning piece taken × Appends before after taken

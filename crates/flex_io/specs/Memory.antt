@@ -13,8 +13,8 @@ pub record MemoryFiles : Type 0 where
   pub calls : ℕ
   pub faults : ℕ
 
--- what was put, which calls fail and how many bytes of its piece each keeps, how many puts were made,
--- and how many of them failed
+-- what was put, which calls fail and how many bytes of its piece each keeps, how many puts were
+-- made, and how many of them failed
 pub record MemorySink : Type 0 where
   pub bytes : List ℕ
   pub failing : map.FinMap nat_cmp ℕ
@@ -25,7 +25,8 @@ pub record MemorySink : Type 0 where
 abbrev pub memory_files_code : Coded MemoryFiles
 memory_files_code =
     code_by (FileMap × (set.FinSet nat_cmp × (ℕ × ℕ)))
-    (coded× (map.code (coded_list coded_ℕ) (coded_list coded_ℕ)) (coded× (set.code coded_ℕ) (coded× coded_ℕ coded_ℕ)))
+    (coded× (map.code (coded_list coded_ℕ) (coded_list coded_ℕ))
+    (coded× (set.code coded_ℕ) (coded× coded_ℕ coded_ℕ)))
     (λ m. (m.files, (m.failing, (m.calls, m.faults))))
     (λ p. record { files = p.0; failing = p.1.0; calls = p.1.1.0; faults = p.1.1.1 })
     (λ _. refl)

@@ -1,6 +1,7 @@
--- What the outside tells: the bytes of files by their paths, the bytes that a sink was given, and how
--- often each has failed. The rules are this project's own.
-use Rattle.std.specs.Prelude.{◌≡◌, ℕ, ◌+◌, ◌-◌, ◌^◌, ◌≤◌, min, List, ◌++◌, length, Option, Some, IfSome}
+-- What the outside tells: the bytes of files by their paths, the bytes that a sink was given, and
+-- how often each has failed. The rules are this project's own.
+use Rattle.std.specs.Prelude.{◌≡◌, ℕ, ◌+◌, ◌-◌, ◌^◌, ◌≤◌, min, List, ◌++◌, length}
+use Rattle.std.specs.Prelude.{Option, Some, IfSome, IsSomeAnd}
 use Rattle.std.specs.Option.{option_map}
 use Rattle.std.specs.Ordering.{nat_cmp}
 use Rattle.std.specs.Cmp.Lexicographic.{slice_cmp}
@@ -26,13 +27,18 @@ next_count n = min (n + 1) last_count
 abbrev pub HasFailed : ℕ → ℕ → Type 0
 HasFailed before now = next_count before ≤ now
 
--- the bytes after are those before and then a file's, which are within the limit, and where files are
--- told, the told ones of the path
-pub record AppendsFile (told : Option FileMap) (path : List ℕ) (limit : ℕ) (before after : List ℕ) : Type 0 where
+-- the bytes after are those before and then a file's, which are within the limit, and where files
+-- are told, the told ones of the path
+pub record AppendsFile (told : Option FileMap) (path : List ℕ) (limit : ℕ) (before after : List ℕ)
+    : Type 0 where
   pub bytes : List ℕ
   pub within_limit : length bytes ≤ limit
   pub appended : after ≡ before ++ bytes
   pub as_told : IfSome told (λ files. bytes_at files path ≡ Some bytes)
+
+-- the told files have a file of the path, which is within the limit
+abbrev pub HasFileWithin : List ℕ → ℕ → FileMap → Type 0
+HasFileWithin path limit files = IsSomeAnd (bytes_at files path) (λ bytes. length bytes ≤ limit)
 
 -- what a sink tells after it gained bytes, if it tells anything
 abbrev pub grown : Option (List ℕ) → List ℕ → Option (List ℕ)

@@ -1,4 +1,5 @@
 // Why a fetch, a put or a load gave up.
+
 ghost use Rattle.std.specs.Prelude.{◌≡◌};
 ghost use Rattle.flex_io.specs.declared.error.FetchError.TheVariants as fetch;
 ghost use Rattle.flex_io.specs.declared.error.LoadError.TheVariants as load;

@@ -1,6 +1,8 @@
 // The trait by which the program reads files.
-ghost use Rattle.std.specs.Prelude.{◌≡◌, ◌≢◌, ◌≤◌, ◌<◌, ◌↔◌, ℕ, length, Option, None, Ok, Err, IfSome, IsSomeAnd, IsErrOf, OnOk};
-ghost use Rattle.flex_io.specs.Outside.{FileMap, bytes_at, HasFailed, AppendsFile};
+
+ghost use Rattle.std.specs.Prelude.{◌≡◌, ◌≢◌, ◌≤◌, ◌<◌, ◌↔◌, ℕ, length, Option, None, Ok, Err};
+ghost use Rattle.std.specs.Prelude.{IfSome, IsSomeAnd, IsErrOf, OnOk};
+ghost use Rattle.flex_io.specs.Outside.{FileMap, bytes_at, HasFailed, HasFileWithin, AppendsFile};
 
 use crate::error::FetchError;
 use std::alloc::Global;
@@ -40,22 +42,28 @@ pub trait Files {
             → AppendsFile (told self.old) path.now limit into.old.items into.new.items }
         ensures unchanged { result ≢ Ok Got.Whole → into.new.items ≡ into.old.items }
 
-        // Where files are told, a file is absent exactly where the map lacks its path, and too large
-        // exactly where its bytes are more than the limit, unless the fetch failed or memory ran out.
+        // Where files are told, a file is absent exactly where the map lacks its path, and too
+        // large exactly where its bytes are more than the limit, unless the fetch failed or memory
+        // ran out.
         ensures absent { OnOk result (IfSome (told self.old) (λ files.
             (result ≡ Ok Got.Absent) ↔ (bytes_at files path.now ≡ None))) }
         ensures too_large { OnOk result (IfSome (told self.old) (λ files.
             (result ≡ Ok Got.TooLarge)
             ↔ IsSomeAnd (bytes_at files path.now) (λ bytes. limit < length bytes))) }
 
+        // Where files are told, memory runs out only for a file that is within the limit.
+        ensures memory { IsErrOf result FetchError.NoMemory
+            → IfSome (told self.old) (HasFileWithin path.now limit) }
+
         // What is told never changes, and the count never falls.
         ensures told { told self.new ≡ told self.old }
         ensures counted { faults self.old ≤ faults self.new }
 
-        // A fetch fails only where the count rose in this call, or stands at its last value. It
-        // never fails where the files are steady.
+        // A fetch fails only where the count rose in this call, or stands at its last value, and a
+        // fault that was counted is answered. It never fails where the files are steady.
         ensures failed { IsErrOf result FetchError.Failed
             → HasFailed (faults self.old) (faults self.new) }
+        ensures answered { result ≢ Err FetchError.Failed → faults self.new ≡ faults self.old }
         ensures steady { is_steady self.old
             → is_steady self.new × (faults self.new ≡ faults self.old)
             × (result ≢ Err FetchError.Failed) };

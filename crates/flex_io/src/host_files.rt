@@ -1,5 +1,7 @@
 // The system's files: a part of the trusted edge. Nothing is told of what they hold.
-ghost use Rattle.std.specs.Prelude.{◌≡◌, ◌≢◌, ◌≤◌, ◌+◌, ◌↔◌, None, Ok, Err, IfErr, IsOkAnd, IsErrAnd, IsErrOf};
+
+ghost use Rattle.std.specs.Prelude.{◌≡◌, ◌≢◌, ◌≤◌, ◌+◌, ◌↔◌, None, Ok, Err};
+ghost use Rattle.std.specs.Prelude.{IfErr, IsOkAnd, IsErrAnd, IsErrOf};
 ghost use Rattle.std.specs.IoError.{error_kind};
 ghost use Rattle.flex_io.specs.Outside.{AppendsFile, HasFailed};
 ghost use Rattle.flex_io.specs.Answers.{faults_after_fetch};
@@ -51,6 +53,8 @@ impl<R: rt::Files> Files for HostFiles<R> {
         ensures counted { fetch_faults self.old ≤ fetch_faults self.new }
         ensures failed { IsErrOf result FetchError.Failed
             → HasFailed (fetch_faults self.old) (fetch_faults self.new) }
+        ensures answered { result ≢ Err FetchError.Failed
+            → fetch_faults self.new ≡ fetch_faults self.old }
     {
         let got = fetch_opened(fs::open(&self.system, path), limit, into);
         if got == Err(FetchError::Failed) {
@@ -118,68 +122,5 @@ fn read_within<F: Read>(file: &mut F, limit: u64, into: &mut Vec<u8>) -> Result<
         }
         into.extend_from_slice(&buffer[..count])?;
         left -= count as u64;
-    }
-}
-
-#[cfg(test)]
-mod tests {
-    use super::*;
-    use std::os::unix::fs::symlink;
-    use std::test::Fail;
-
-    // A reader that a signal interrupts.
-    #[derive(Drop)]
-    struct Interrupted;
-
-    impl Read for Interrupted {
-        fn read(&mut self, _buf: &mut [u8]) -> io::Result<usize> {
-            Err(io::Error::from(ErrorKind::Interrupted))
-        }
-    }
-
-    #[test]
-    fn the_systems_files_are_fetched(rt: HostRuntime) -> Result<(), Fail> {
-        let alloc = rt.alloc();
-        let _ = fs::remove_dir_all(&rt, "tried");
-        fs::create_dir(&rt, "tried")?;
-        fs::create_dir(&rt, "tried/folder")?;
-        fs::write(&rt, "tried/four", b"four")?;
-        symlink(&rt, "loop", "tried/loop")?;
-        let long_name = "x".repeat(alloc, 300)?;
-        let long_path = "x/".repeat(alloc, 3000)?;
-        let failed = Err(FetchError::Failed);
-        let wanted = [
-            ("tried/four", 4, Ok(Got::Whole), "four"),
-            ("tried/four", 3, Ok(Got::TooLarge), ""),
-            ("tried/four", 0, Ok(Got::TooLarge), ""),
-            ("tried/none", 4, Ok(Got::Absent), ""),
-            ("tried/none/four", 4, Ok(Got::Absent), ""),
-            ("tried/folder", 4, failed, ""),
-            ("tried/four/four", 4, failed, ""),
-            ("tried/loop", 4, failed, ""),
-            ("tried/four\0", 4, failed, ""),
-            (long_name.as_str(), 4, failed, ""),
-            (long_path.as_str(), 4, failed, ""),
-        ];
-        let mut files = HostFiles::new(rt);
-        for (path, limit, answer, bytes) in wanted {
-            let mut into = Vec::new(alloc);
-            let got = files.fetch(alloc, path, limit, &mut into);
-            assert_eq!(rt; got, answer, "at {path}");
-            assert!(rt; into.as_slice() == bytes.as_bytes());
-        }
-        assert_eq!(rt; files.faults, 6);
-        fs::remove_dir_all(&rt, "tried")?;
-        Ok(())
-    }
-
-    #[test]
-    fn a_read_that_fails_in_mid_stream_leaves_nothing(rt: HostRuntime) -> Result<(), Fail> {
-        let file = b"four".as_slice().chain(Interrupted);
-        let mut into = b"kept".to_vec(rt.alloc())?;
-        let got = fetch_opened(Ok(file), 9, &mut into);
-        assert_eq!(rt; got, Err(FetchError::Failed));
-        assert!(rt; into.as_slice() == b"kept".as_slice());
-        Ok(())
     }
 }

@@ -1,4 +1,5 @@
 // The system's output streams: a part of the trusted edge. Nothing is told of what they were given.
+
 ghost use Rattle.std.specs.Prelude.{◌≡◌, ◌≢◌, ◌≤◌, None, Err, IsErrOf, IsTrue, OnOk};
 ghost use Rattle.std.specs.Io.KnownBytes.{Appends};
 ghost use Rattle.flex_io.specs.Outside.{HasFailed};
@@ -44,6 +45,8 @@ impl<W: Write> Sink for HostSink<W> {
         ensures counted { put_faults self.old ≤ put_faults self.new }
         ensures failed { IsErrOf result PutError.Failed
             → HasFailed (put_faults self.old) (put_faults self.new) }
+        ensures answered { result ≢ Err PutError.Failed
+            → put_faults self.new ≡ put_faults self.old }
     {
         if write_whole(&mut self.stream, piece) {
             return Ok(());
@@ -67,66 +70,4 @@ fn write_whole<W: Write>(stream: &mut W, piece: &[u8]) -> bool
         }
     }
     stream.flush().is_ok()
-}
-
-#[cfg(test)]
-mod tests {
-    use super::*;
-    use std::test::Fail;
-    use std::{fs, io};
-
-    // A writer that takes a few bytes at a time, as long as it has room.
-    #[derive(Drop)]
-    struct Narrow {
-        most: usize,
-        taken: Vec<u8>,
-        room: usize,
-    }
-
-    impl Write for Narrow {
-        fn write(&mut self, buf: &[u8]) -> io::Result<usize> {
-            let count = buf.len().min(self.most).min(self.room);
-            self.taken.extend_from_slice(&buf[..count])?;
-            self.room -= count;
-            Ok(count)
-        }
-
-        fn flush(&mut self) -> io::Result<()> {
-            Ok(())
-        }
-    }
-
-    #[test]
-    fn a_systems_stream_is_written(rt: HostRuntime) -> Result<(), Fail> {
-        let alloc = rt.alloc();
-        let file = fs::create(&rt, "tried.txt")?;
-        let mut sink = HostSink::new(io::BufWriter::new(alloc, file)?);
-        assert_eq!(rt; sink.put(b"one "), Ok(()));
-        assert_eq!(rt; sink.put(b"two"), Ok(()));
-        let text = fs::read_to_string(&rt, "tried.txt")?;
-        fs::remove_file(&rt, "tried.txt")?;
-        assert_eq!(rt; text.as_str(), "one two");
-
-        let (reader, writer) = io::pipe(&rt)?;
-        drop(reader);
-        let mut closed = HostSink::new(writer);
-        assert_eq!(rt; closed.put(b""), Ok(()));
-        assert_eq!(rt; closed.put(b"one"), Err(PutError::Failed));
-        assert_eq!(rt; closed.faults, 1);
-        Ok(())
-    }
-
-    #[test]
-    fn a_piece_is_written_in_turns(rt: HostRuntime) -> Result<(), Fail> {
-        let mut sink = HostSink::new(Narrow {
-            most: 3,
-            taken: Vec::new(rt.alloc()),
-            room: 9,
-        });
-        assert_eq!(rt; sink.put(b"a query"), Ok(()));
-        assert_eq!(rt; sink.put(b"-line"), Err(PutError::Failed));
-        assert!(rt; sink.stream.taken.as_slice() == b"a query-l".as_slice());
-        assert_eq!(rt; sink.faults, 1);
-        Ok(())
-    }
 }

@@ -1,11 +1,14 @@
 // Files in memory, for tests and generated input, which fail at the calls that are named alone.
-ghost use Rattle.std.specs.Prelude.{◌≡◌, ◌≢◌, ◌≤◌, ◌<◌, ◌↔◌, length, Option, None, Some, Ok, Err, IsSomeAnd, IsErrOf, OnOk, OnErr, IsTrue};
+
+ghost use Rattle.std.specs.Prelude.{◌≡◌, ◌≢◌, ◌≤◌, ◌<◌, ◌↔◌, length, Option, None, Some, Ok, Err};
+ghost use Rattle.std.specs.Prelude.{IsSomeAnd, IsErrOf, OnOk, OnErr, IsTrue};
 ghost use Rattle.std.specs.FinMap as map;
 ghost use Rattle.std.specs.FinSet as set;
 ghost use Rattle.std.specs.Ordering.{nat_cmp};
 ghost use Rattle.std.specs.Cmp.Lexicographic.{slice_cmp};
 ghost use Rattle.std.specs.Option.{option_copied};
-ghost use Rattle.flex_io.specs.Outside.{bytes_at, HasFailed, AppendsFile, next_count};
+ghost use Rattle.flex_io.specs.Outside.{bytes_at, next_count};
+ghost use Rattle.flex_io.specs.Outside.{AppendsFile, HasFailed, HasFileWithin};
 ghost use Rattle.flex_io.specs.Answers.{faults_after_fetch};
 
 use crate::error::FetchError;
@@ -144,6 +147,9 @@ impl Files for MemFiles {
         ensures too_large { OnOk result ((result ≡ Ok Got.TooLarge)
             ↔ IsSomeAnd (bytes_at self.old.files path.now) (λ bytes. limit < length bytes)) }
 
+        ensures memory { IsErrOf result FetchError.NoMemory
+            → HasFileWithin path.now limit self.old.files }
+
         // It fails exactly at the calls that were named. Each call counts, whatever its answer.
         ensures failed { IsErrOf result FetchError.Failed
             ↔ IsTrue (set.contains self.old.failing (next_count self.old.calls)) }
@@ -156,6 +162,7 @@ impl Files for MemFiles {
         ensures counted { self.old.faults ≤ self.new.faults }
         ensures cause { IsErrOf result FetchError.Failed
             → HasFailed self.old.faults self.new.faults }
+        ensures answered { result ≢ Err FetchError.Failed → self.new.faults ≡ self.old.faults }
         ensures steady { self.old.failing ≡ set.empty
             → (self.new.failing ≡ set.empty) × (self.new.faults ≡ self.old.faults)
             × (result ≢ Err FetchError.Failed) }
@@ -173,52 +180,5 @@ impl Files for MemFiles {
         }
         into.extend_from_slice(bytes)?;
         Ok(Got::Whole)
-    }
-}
-
-#[cfg(test)]
-mod tests {
-    use super::*;
-    use std::test::Fail;
-
-    #[test]
-    fn files_are_told_within_the_limit(rt: HostRuntime) -> Result<(), Fail> {
-        let alloc = rt.alloc();
-        let mut files = MemFiles::new(alloc);
-        files.add("a/b", b"old")?;
-        files.add("a/b", b"four")?;
-        let wanted = [
-            ("a/b", 3, Got::TooLarge, ""),
-            ("a/b", 4, Got::Whole, "four"),
-            ("a", 4, Got::Absent, ""),
-        ];
-        for (path, limit, got, bytes) in wanted {
-            let mut into = Vec::new(alloc);
-            assert_eq!(rt; files.fetch(alloc, path, limit, &mut into), Ok(got));
-            assert!(rt; into.as_slice() == bytes.as_bytes());
-        }
-        Ok(())
-    }
-
-    #[test]
-    fn the_named_fetches_fail(rt: HostRuntime) -> Result<(), Fail> {
-        let alloc = rt.alloc();
-        let mut files = MemFiles::new(alloc);
-        files.add("a", b"1")?;
-        files.fail_at(2)?;
-        files.fail_at(4)?;
-        files.fail_at(2)?;
-        let failed = Err(FetchError::Failed);
-        for want in [
-            Ok(Got::Whole),
-            failed,
-            Ok(Got::Whole),
-            failed,
-            Ok(Got::Whole),
-        ] {
-            let mut into = Vec::new(alloc);
-            assert_eq!(rt; files.fetch(alloc, "a", 9, &mut into), want);
-        }
-        Ok(())
     }
 }

@@ -1,5 +1,7 @@
 // A sink in memory, for tests, which fails at the calls that are named alone.
-ghost use Rattle.std.specs.Prelude.{◌≡◌, ◌≤◌, [], ◌++◌, take, Option, None, Some, IsSomeAnd, IsErrOf, OnOk, OnErr};
+
+ghost use Rattle.std.specs.Prelude.{◌≡◌, ◌≢◌, ◌≤◌, [], ◌++◌, take, Option, None, Some, Err};
+ghost use Rattle.std.specs.Prelude.{IsSomeAnd, IsErrOf, OnOk, OnErr};
 ghost use Rattle.std.specs.FinMap as map;
 ghost use Rattle.std.specs.Ordering.{nat_cmp};
 ghost use Rattle.flex_io.specs.Outside.{HasFailed, Gains, IsBeginning, next_count};
@@ -110,6 +112,7 @@ impl Sink for MemSink {
             → Gains (Some self.old.bytes) (Some self.new.bytes) (IsBeginning piece.now) }
         ensures counted { self.old.faults ≤ self.new.faults }
         ensures cause { IsErrOf result PutError.Failed → HasFailed self.old.faults self.new.faults }
+        ensures answered { result ≢ Err PutError.Failed → self.new.faults ≡ self.old.faults }
     {
         self.calls = self.calls.saturating_add(1);
         let Some(keep) = self.kept_at(self.calls) else {
@@ -131,32 +134,5 @@ fn beginning_of(piece: &[u8], keep: u64) -> &[u8]
         &piece[..keep as usize]
     } else {
         piece
-    }
-}
-
-#[cfg(test)]
-mod tests {
-    use super::*;
-    use std::test::Fail;
-
-    #[test]
-    fn the_named_puts_keep_a_beginning(rt: HostRuntime) -> Result<(), Fail> {
-        let mut sink = MemSink::new(rt.alloc());
-        sink.fail_at(2, 0)?;
-        sink.fail_at(4, 99)?;
-        sink.fail_at(2, 5)?;
-        let failed = Err(PutError::Failed);
-        let wanted = [
-            ("one ", Ok(()), "one "),
-            ("query q1", failed, "one query"),
-            (" ", Ok(()), "one query "),
-            ("of two", failed, "one query of two"),
-            (".", Ok(()), "one query of two."),
-        ];
-        for (piece, answer, bytes) in wanted {
-            assert_eq!(rt; sink.put(piece.as_bytes()), answer);
-            assert!(rt; sink.bytes() == bytes.as_bytes());
-        }
-        Ok(())
     }
 }

@@ -1,5 +1,6 @@
 // The trait by which the program writes its output.
-ghost use Rattle.std.specs.Prelude.{◌≡◌, ◌≤◌, ℕ, List, Option, IsErrOf, OnOk};
+
+ghost use Rattle.std.specs.Prelude.{◌≡◌, ◌≢◌, ◌≤◌, ℕ, List, Option, Err, IsErrOf, OnOk};
 ghost use Rattle.flex_io.specs.Outside.{HasFailed, grown, Gains, IsBeginning};
 
 use crate::error::PutError;
@@ -21,8 +22,9 @@ pub trait Sink {
             → contents self.new ≡ contents self.old }
 
         // The count never falls. A put fails only where it rose in this call, or stands at its
-        // last value.
+        // last value, and a fault that was counted is answered.
         ensures counted { faults self.old ≤ faults self.new }
         ensures failed { IsErrOf result PutError.Failed
-            → HasFailed (faults self.old) (faults self.new) };
+            → HasFailed (faults self.old) (faults self.new) }
+        ensures answered { result ≢ Err PutError.Failed → faults self.new ≡ faults self.old };
 }

@@ -1,4 +1,4 @@
-use Rattle.std.proofs.Common.{◌≡◌, ◌<◌, ◌-◌, ◌+◌, ◌∙◌, sym, ap, arith, length, get_or, take}
+use Rattle.std.proofs.Common.{◌≡◌, ◌-◌, ◌+◌, ◌∙◌, sym, ap, arith, length, get_or, take}
 use Rattle.feed_tables.specs.Fields.{is_blank, without_trailing}
 use Rattle.feed_tables.proofs.Trims.{trailing-blank, trailing-end, trailing-other}
 use Rattle.feed_tables.proofs.fields.unblanked_end.Goals as goal

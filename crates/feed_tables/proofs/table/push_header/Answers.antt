@@ -1,10 +1,9 @@
-use Rattle.std.proofs.Common.{◌≡◌, ◌∙◌, ◌++◌, sym, ap, inr, length, map, lit≤, [], List, filter}
+use Rattle.std.proofs.Common.{◌≡◌, ◌∙◌, ◌++◌, sym, ap, inr, [], List, filter}
 use Rattle.std.proofs.lemmas.List.{length-map}
-use Rattle.std.proofs.lemmas.Result.{err_from_is_err_and}
 use Rattle.csv.specs.Records.{fields_of}
 use Rattle.feed_tables.specs.Fields.{trimmed}
 use Rattle.feed_tables.specs.Refusals.{has_duplicate, is_given}
-use Rattle.feed_tables.proofs.TableFacts.{refusal-duplicate, refusal-header, text-refused}
+use Rattle.feed_tables.proofs.TableFacts.{refusal-duplicate, refusal-header}
 use Rattle.feed_tables.proofs.table.push_header.Goals as goal
 
 -- what the pool holds after the header's fields

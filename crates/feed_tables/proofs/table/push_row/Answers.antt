@@ -1,12 +1,10 @@
-use Rattle.std.proofs.Common.{◌≡◌, ◌+◌, ◌∙◌, ◌++◌, ◌∷◌, Bool, sym, ap, subst, inr, length, map, drop, arith, [], ℕ, List}
+use Rattle.std.proofs.Common.{◌≡◌, ◌+◌, ◌∙◌, ◌++◌, Bool, sym, ap, inr, length, map, drop, arith, ℕ, List}
 use Rattle.std.specs.List.{list_any}
 use Rattle.std.proofs.lemmas.List.{length-append}
-use Rattle.std.proofs.lemmas.Result.{err_from_is_err_and}
 use Rattle.csv.specs.Records.{fields_of}
 use Rattle.feed_tables.specs.Fields.{trimmed}
-use Rattle.feed_tables.specs.Parts.{EndAt, parts}
 use Rattle.feed_tables.specs.Refusals.{is_given}
-use Rattle.feed_tables.proofs.TableFacts.{any-end, drop-added, cut-pushed, parts-pushed, refusal-long, refusal-none, text-refused}
+use Rattle.feed_tables.proofs.TableFacts.{any-end, drop-added, cut-pushed, parts-pushed, refusal-long, refusal-none}
 use Rattle.feed_tables.proofs.table.push_row.Goals as goal
 use Rattle.feed_tables.proofs.table.push_row.Goals.{else-columns-width-via-then-columns-width+else-has_given, else-columns-width-via-else-columns-width}
 

@@ -10,7 +10,6 @@ use Rattle.std.specs.Ordering.{nat_cmp}
 use Rattle.std.specs.Str.{bytes_eq}
 use Rattle.std.proofs.lemmas.List.{drop_all}
 use Rattle.std.proofs.lemmas.Map.Text.{btree_map_updates_str}
-use Rattle.csv.specs.Records.{fields_of}
 use Rattle.feed_tables.specs.Refusals.{has_duplicate, is_given}
 use Rattle.feed_tables.proofs.TableFacts.{duplicate-more, duplicate-seen, given-at, given-names, no-duplicates}
 use Rattle.feed_tables.proofs.table.repeats_name.Goals as goal

@@ -5,7 +5,6 @@ use Rattle.std.specs.List.{list_any}
 use Rattle.std.specs.Option.{is_some}
 use Rattle.std.specs.Ordering.{nat_cmp}
 use Rattle.std.specs.Str.{bytes_eq}
-use Rattle.csv.specs.Records.{fields_of}
 use Rattle.feed_tables.specs.Refusals.{has_duplicate, is_given}
 use Rattle.feed_tables.proofs.table.repeats_name.Given as goal
 

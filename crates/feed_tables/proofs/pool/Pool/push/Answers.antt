@@ -18,9 +18,9 @@ overflow_cast-len c =
     let size = size-more c.args.self.now ends (string_bytes c.self.inside.buffer) (string_bytes c.push_str.new.self) c.args.text.now c.self.invariant.rising c.self.view_is c.in_ok-push_str.ensures.bytes in
     omega (arith, c.len.ensures, size, c.requires)
 
--- the places with the end of the buffer put last
-places-more : (new now ends : List ℕ) (n m : ℕ) → new ≡ now ++ n ∷ [] → now ≡ ends → n ≡ m → new ≡ ends ++ m ∷ []
-places-more new now ends n m e f g = rw (e, f, g) refl
+-- the indices with the end of the buffer put last
+indices-more : (new now ends : List ℕ) (n m : ℕ) → new ≡ now ++ n ∷ [] → now ≡ ends → n ≡ m → new ≡ ends ++ m ∷ []
+indices-more new now ends n m e f g = rw (e, f, g) refl
 
 pub invariant_of-self-2 : goal.invariant_of-self-2
 invariant_of-self-2 c =
@@ -28,13 +28,13 @@ invariant_of-self-2 c =
     let buffer = string_bytes c.self.inside.buffer in
     let bytes = c.in_ok-push_str.ensures.bytes in
     let size : c.len.result ≡ length (buffer ++ c.args.text.now) = omega (arith, c.len.ensures, ap length bytes) in
-    rw (places-more _ _ ends _ _ c.push_reserved.ensures.items c.reserve.ensures.items size, bytes) (cut-more ends buffer c.args.text.now c.self.invariant c.utf8.text)
+    rw (indices-more _ _ ends _ _ c.push_reserved.ensures.items c.reserve.ensures.items size, bytes) (cut-more ends buffer c.args.text.now c.self.invariant c.utf8.text)
 
 pub returns-clause-ok : goal.returns-clause-ok
 returns-clause-ok c =
     let ends = c.self.inside.ends.items in
     let buffer = string_bytes c.self.inside.buffer in
-    let places = places-more _ _ ends c.len.result c.len.result c.push_reserved.ensures.items c.reserve.ensures.items refl in
+    let indices = indices-more _ _ ends c.len.result c.len.result c.push_reserved.ensures.items c.reserve.ensures.items refl in
     let size : c.len.result ≡ length (string_bytes c.push_str.new.self) = omega (arith, c.len.ensures) in
-    let gained = parts-pushed ends _ buffer _ c.args.text.now _ c.self.invariant.rising places size c.in_ok-push_str.ensures.bytes in
+    let gained = parts-pushed ends _ buffer _ c.args.text.now _ c.self.invariant.rising indices size c.in_ok-push_str.ensures.bytes in
     gained ∙ ap (λ texts. texts ++ c.args.text.now ∷ []) c.self.view_is

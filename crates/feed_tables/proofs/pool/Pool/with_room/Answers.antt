@@ -1,6 +1,4 @@
-use Rattle.std.proofs.Common.{◌≡◌, sym, subst}
 use Rattle.std.specs.Prelude.{string_bytes}
-use Rattle.feed_tables.specs.Parts.{IsCut, parts}
 use Rattle.feed_tables.proofs.Pools.{cut-none, parts-none}
 use Rattle.feed_tables.proofs.pool.Pool.with_room.Goals as goal
 

@@ -1,13 +1,12 @@
 use Rattle.std.proofs.Common.{◌≡◌, ◌<◌, ◌∙◌, sym, ap, length, get_or, arith, [], ℕ, List, false, position}
 use Rattle.std.specs.Str.{bytes_eq}
 use Rattle.std.proofs.lemmas.List.{get_or_default}
-use Rattle.csv.specs.Records.{fields_of}
 use Rattle.feed_tables.specs.Parts.{parts}
 use Rattle.feed_tables.specs.Records.{header_of}
 use Rattle.feed_tables.proofs.TableFacts.{header-field, position-found, position-missing}
 use Rattle.feed_tables.proofs.table.Table.column.Goals as goal
 
--- the value at a place, whatever the default
+-- the value at an index, whatever the default
 read : (xs : List ℕ) (i x : ℕ) → x ≡ get_or xs i x → i < length xs → x ≡ get_or xs i 0
 read xs i x e lt = e ∙ get_or_default xs i x 0 lt
 

@@ -1,6 +1,5 @@
 use Rattle.std.proofs.Common.{◌≡◌, ◌<◌, ℕ, false, get_or, []}
 use Rattle.std.specs.Str.{bytes_eq}
-use Rattle.csv.specs.Records.{fields_of}
 use Rattle.feed_tables.proofs.table.Table.column.Given as goal
 
 abbrev pub invariant-loop-column : goal.invariant-loop-column

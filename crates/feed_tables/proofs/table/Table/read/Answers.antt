@@ -13,8 +13,8 @@ returns-in_err-push_header-clause-refused c =
     let start = starts _ _ _ _ _ c.without_mark.ensures c.new-left.ensures got in
     rw (p.1, p.2) (header-refused _ _ _ _ start c.in_err-push_header.ensures.refused)
 
-pub loop-place-init : goal.loop-place-init
-loop-place-init c =
+pub loop-index-init : goal.loop-index-init
+loop-index-init c =
     let got = found-first _ c.if-not-branch.false c.in_ok-next.ensures.found in
     let start = starts _ _ _ _ _ c.without_mark.ensures c.new-left.ensures got in
     let h = c.in_ok-push_header.ensures in
@@ -32,22 +32,22 @@ loop-place-init c =
 pub returns-then-not-branch-2-clause-accepted : goal.returns-then-not-branch-2-clause-accepted
 returns-then-not-branch-2-clause-accepted c =
     let none = found-none _ _ c.if-not-branch-2.true c.in_ok-next-2.ensures.found in
-    rows-done _ _ _ _ none c.loop-place.invariant.sound
+    rows-done _ _ _ _ none c.loop-index.invariant.sound
 
 pub returns-in_err-push_row-clause-refused : goal.returns-in_err-push_row-clause-refused
 returns-in_err-push_row-clause-refused c =
     let p = err_from_is_err_and c.from_residual-in_err-push_row.result c.from_residual-in_err-push_row.ensures.1 in
     let got = found-first _ c.if-not-branch-2.false c.in_ok-next-2.ensures.found in
-    rw (p.1, p.2) (row-refused _ _ _ _ _ _ _ got c.loop-place.invariant.sound c.in_err-push_row.ensures.refused)
+    rw (p.1, p.2) (row-refused _ _ _ _ _ _ _ got c.loop-index.invariant.sound c.in_err-push_row.ensures.refused)
 
-pub loop-place-preserved : goal.loop-place-preserved
-loop-place-preserved c =
+pub loop-index-preserved : goal.loop-index-preserved
+loop-index-preserved c =
     let got = found-first _ c.if-not-branch-2.false c.in_ok-next-2.ensures.found in
-    let i = c.loop-place.invariant in
+    let i = c.loop-index.invariant in
     let r = c.in_ok-push_row.ensures in
     let (some, first) = first-stays _ _ _ i.some r.ends in
     record {
-      count = ap length r.ends ∙ length-append c.loop-place.ends.items _ ∙ ap (λ n. n + 1) i.count;
+      count = ap length r.ends ∙ length-append c.loop-index.ends.items _ ∙ ap (λ n. n + 1) i.count;
       some = some;
       cut = r.cut;
       small = omega (arith, first, i.small);
@@ -58,13 +58,13 @@ loop-place-preserved c =
 
 pub returns-then-branch-clause-refused : goal.returns-then-branch-clause-refused
 returns-then-branch-clause-refused c =
-    let (fields, rest, got) = found-some-true _ _ c.if-branch.true c.in_ok-has_next.ensures in
-    row-refused _ _ _ _ _ _ _ got c.loop-place.invariant.sound (inr (refusal-many _ _ _ (omega (arith, c.loop-place-test.false))))
+    let (fields, rest, got) = found-some-true _ _ c.if-branch.true c.in_ok-has_next.ensures.found in
+    row-refused _ _ _ _ _ _ _ got c.loop-index.invariant.sound (inr (refusal-many _ _ _ (omega (arith, c.loop-index-test.false))))
 
 pub returns-clause-accepted : goal.returns-clause-accepted
 returns-clause-accepted c =
-    let none = found-none _ _ c.if-branch.false c.in_ok-has_next.ensures in
-    rows-done _ _ _ _ none c.loop-place.invariant.sound
+    let none = found-none _ _ c.if-branch.false c.in_ok-has_next.ensures.found in
+    rows-done _ _ _ _ none c.loop-index.invariant.sound
 
 pub returns-in_err-next-clause-refused : goal.returns-in_err-next-clause-refused
 returns-in_err-next-clause-refused c =
@@ -79,9 +79,9 @@ push_header-requires-clause-room c =
 pub returns-in_err-next-2-clause-refused : goal.returns-in_err-next-2-clause-refused
 returns-in_err-next-2-clause-refused c =
     let p = err_from_is_err_and c.from_residual-in_err-next-2.result c.from_residual-in_err-next-2.ensures.1 in
-    rw (p.1, p.2) (row-text-refused _ _ _ _ _ (omega arith) c.loop-place.invariant.sound c.in_err-next-2.ensures.refused)
+    rw (p.1, p.2) (row-text-refused _ _ _ _ _ (omega arith) c.loop-index.invariant.sound c.in_err-next-2.ensures.refused)
 
 pub push_row-requires-clause-room : goal.push_row-requires-clause-room
 push_row-requires-clause-room c =
     let got = found-first _ c.if-not-branch-2.false c.in_ok-next-2.ensures.found in
-    row-needs c.loop-place.left _ _ c.loop-place.pool got c.loop-place.invariant.room
+    row-needs c.loop-index.left _ _ c.loop-index.pool got c.loop-index.invariant.room

@@ -1,5 +1,4 @@
 use Rattle.std.proofs.Common.{ap, arith, length}
-use Rattle.csv.specs.Records.{fields_of}
 use Rattle.feed_tables.proofs.TableFacts.{length-parts}
 use Rattle.feed_tables.proofs.table.Table.record_count.Goals as goal
 

@@ -1,4 +1,4 @@
-use Rattle.std.proofs.Common.{◌≡◌, ◌∙◌, ◌<◌, ◌≤◌, ◌+◌, ℕ, List, sym, ap, subst, arith, length, drop}
+use Rattle.std.proofs.Common.{◌∙◌, ◌<◌, ◌≤◌, ◌+◌, ℕ, List, sym, ap, subst, arith, length, drop}
 use Rattle.std.proofs.lemmas.List.{length-drop}
 use Rattle.feed_tables.specs.Records.{rows_of}
 use Rattle.feed_tables.proofs.TableFacts.{length-numbered, length-parts}
