@@ -3,9 +3,9 @@ use Rattle.std.proofs.Common.{◌≡◌, ◌≤◌, List, [], ◌∷◌, All, le
 use Rattle.std.proofs.lemmas.List.{length-map}
 use Rattle.flex_model.specs.declared.fault.Fault.{Fault}
 use Rattle.flex_model.specs.declared.fault.InputFile.{InputFile}
-use Rattle.flex_model.specs.declared.fault.InputFile.TheVariants.{Stops, Trips, StopTimes, Calendar, CalendarDates, LocationGroups, BookingRules, Transfers}
+use Rattle.flex_model.specs.declared.fault.InputFile.TheVariants.{Stops, Trips, StopTimes, Calendar, CalendarDates, LocationGroups, BookingRules, Transfers, Frequencies}
 use Rattle.feed_tables.specs.declared.refusal.TheConstants.{MAX_ROWS}
-use Rattle.feed_meaning.specs.FeedFaults.{Geo, booking_rules_schema, calendar_dates_schema, calendar_schema, feed_contents, feed_entries, feed_faults, feed_files, feed_level_one, feed_level_two, first_list, groups_schema, link_faults, links_of, stop_times_schema, stops_schema, tables, transfers_schema, trips_schema}
+use Rattle.feed_meaning.specs.FeedFaults.{Geo, booking_rules_schema, calendar_dates_schema, calendar_schema, feed_contents, feed_entries, feed_faults, feed_files, feed_level_one, feed_level_two, first_list, frequencies_schema, groups_schema, link_faults, links_of, stop_times_schema, stops_schema, tables, transfers_schema, trips_schema}
 use Rattle.feed_meaning.specs.FeedLinks.{Tables}
 use Rattle.feed_meaning.specs.Folder.{Folder, entries, file_faults}
 use Rattle.feed_meaning.specs.Rules.{Rules}
@@ -27,6 +27,7 @@ pub record KeepsFeedRules (tables : Tables) : Type 0 where
   pub groups : KeepsRules groups_schema.rules tables LocationGroups
   pub booking_rules : KeepsRules booking_rules_schema.rules tables BookingRules
   pub transfers : KeepsRules transfers_schema.rules tables Transfers
+  pub frequencies : KeepsRules frequencies_schema.rules tables Frequencies
 
 -- both lists are empty where the first of them that isn't empty is
 pub lists_are_empty : (first second : List Fault) → first_list first second ≡ [] → (first ≡ []) × (second ≡ [])
@@ -61,4 +62,5 @@ module _ (geo : Geo) (folder : Folder) where
         groups = keeps LocationGroups groups_schema refl (file_keeps contents folder LocationGroups groups_schema (λ bytes. refl) (one 8 Trips (lit< tt))) (two 8 Trips (lit< tt));
         booking_rules = keeps BookingRules booking_rules_schema refl (file_keeps contents folder BookingRules booking_rules_schema (λ bytes. refl) (one 10 Trips (lit< tt))) (two 10 Trips (lit< tt));
         transfers = keeps Transfers transfers_schema refl (file_keeps contents folder Transfers transfers_schema (λ bytes. refl) (one 11 Trips (lit< tt))) (two 11 Trips (lit< tt));
+        frequencies = keeps Frequencies frequencies_schema refl (file_keeps contents folder Frequencies frequencies_schema (λ bytes. refl) (one 12 Trips (lit< tt))) (two 12 Trips (lit< tt));
       }

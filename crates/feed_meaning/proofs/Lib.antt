@@ -21,6 +21,7 @@ pub mod TripOrder
 pub mod TripRows
 pub mod Nearest
 pub mod TripTimes
+pub mod SoundRepeats
 pub mod SoundFeeds
 pub mod PlacesNamed
 pub mod SoundTimesFolders

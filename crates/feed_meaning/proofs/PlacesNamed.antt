@@ -19,7 +19,6 @@ use Rattle.flex_model.specs.Place.{HasBoards, IsPlaceBefore, place_cmp}
 use Rattle.flex_model.specs.SoundFeed.{IsSoundFeed}
 use Rattle.flex_model.specs.SoundTimes.{IsInRange}
 use Rattle.flex_model.specs.Times.{IsSpanBefore}
-use Rattle.flex_model.proofs.Orders.{places_compared}
 use Rattle.std.proofs.lemmas.List.{get_or-map, length-map}
 use Rattle.feed_meaning.specs.FeedValue.{place_of}
 use Rattle.feed_meaning.specs.QueryFaults.{is_point}
@@ -42,6 +41,9 @@ nat-equal x y e = grind (arith, nat_tests)
 nat-less : (x y : ℕ) → nat_cmp x y ≡ Less → x < y
 nat-less x y e = grind (arith, nat_tests)
 
+nat-greater : (x y : ℕ) → nat_cmp x y ≡ Greater → y < x
+nat-greater x y e = grind (arith, nat_tests)
+
 less-nat : (x y : ℕ) → x < y → nat_cmp x y ≡ Less
 less-nat x y h = grind (arith, nat_tests)
 
@@ -63,6 +65,12 @@ place-less (place.Stop a) (place.Stop b) e = nat-less a b e
 place-less (place.Stop a) (place.Point b) e = tt
 place-less (place.Point a) (place.Stop b) e = cc
 place-less (place.Point a) (place.Point b) e = nat-less a b e
+
+place-greater : (x y : Place) → place_cmp x y ≡ Greater → IsPlaceBefore y x
+place-greater (place.Stop a) (place.Stop b) e = nat-greater a b e
+place-greater (place.Stop a) (place.Point b) e = cc
+place-greater (place.Point a) (place.Stop b) e = tt
+place-greater (place.Point a) (place.Point b) e = nat-greater a b e
 
 less-place : (x y : Place) → IsPlaceBefore x y → place_cmp x y ≡ Less
 less-place (place.Stop a) (place.Stop b) h = less-nat a b h
@@ -115,15 +123,14 @@ span_transitive x y z e f = is_span_before x z (span-through x y z (span_before_
 
 -- two spans that don't join the same places are in order
 pub spans_in_order : (x y : Span) → (x.from ≡ y.from → x.to ≡ y.to → ⊥) → IsOrdered span_before span_irreflexive span_transitive x y
-spans_in_order x y differ = elim (places_compared x.from y.from) [
-  | inl same ↦ elim (places_compared x.to y.to) [
-    | inl same' ↦ absurd (differ same same')
-    | inr (inl lt) ↦ inl (is_span_before x y (inr (same, lt)))
-    | inr (inr lt) ↦ inr (is_span_before y x (inr (sym same, lt)))
-  ]
-  | inr (inl lt) ↦ inl (is_span_before x y (inl lt))
-  | inr (inr lt) ↦ inr (is_span_before y x (inl lt))
-]
+spans_in_order x y differ = by (place_cmp x.from y.from) (place_cmp x.to y.to) refl refl
+  where
+    by : (o p : Ordering) → place_cmp x.from y.from ≡ o → place_cmp x.to y.to ≡ p → IsOrdered span_before span_irreflexive span_transitive x y
+    by Less p is is' = inl (is_span_before x y (inl (place-less x.from y.from is)))
+    by Greater p is is' = inr (is_span_before y x (inl (place-greater x.from y.from is)))
+    by Equal Less is is' = inl (is_span_before x y (inr (place-equal x.from y.from is, place-less x.to y.to is')))
+    by Equal Equal is is' = absurd (differ (place-equal x.from y.from is) (place-equal x.to y.to is'))
+    by Equal Greater is is' = inr (is_span_before y x (inr (sym (place-equal x.from y.from is), place-greater x.to y.to is')))
 
 -- ---- named places
 

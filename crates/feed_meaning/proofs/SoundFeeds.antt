@@ -1,8 +1,9 @@
 -- A folder without faults holds a sound feed.
-use Rattle.std.proofs.Common.{◌≡◌, ℕ, ◌^◌, ◌<◌, List, [], All, AllPairs, None, map, length, get_or, refl, sym, ◌∙◌, ap, arith, lit<}
+use Rattle.std.proofs.Common.{◌≡◌, ℕ, ◌^◌, ◌<◌, ◌≤◌, zero, suc, List, [], All, AllPairs, None, map, length, get_or, refl, sym, ◌∙◌, ap, arith, lit<, inl, inr}
 use Rattle.std.specs.Str.{bytes_eq}
+use Rattle.std.proofs.lemmas.Bool.{cases_lt}
 use Rattle.std.proofs.lemmas.List.{length-map}
-use Rattle.std.proofs.lemmas.List.Elements.{All-contains, All-filter, All-map, All-nil}
+use Rattle.std.proofs.lemmas.List.Elements.{All-filter, All-map, All-nil}
 use Rattle.flex_model.specs.declared.fault.FaultCode.TheVariants as code
 use Rattle.flex_model.specs.declared.fault.InputFile.TheVariants.{Trips, StopTimes, Locations}
 use Rattle.flex_model.specs.declared.fault.RawFile.{RawFile}
@@ -10,7 +11,6 @@ use Rattle.flex_model.specs.declared.fault.RawFile.TheVariants.{Absent, TooLarge
 use Rattle.flex_model.specs.declared.trip.Row.{Row}
 use Rattle.flex_model.specs.SoundFeed.{DoesNotFall, IsSoundFeed, IsSoundPolygon, IsSoundRow, IsSoundTrip}
 use Rattle.flex_model.specs.SoundTimes.{AreIds}
-use Rattle.flex_model.proofs.RisingLists.{rising_short}
 use Rattle.field_text.specs.Grammars.{number}
 use Rattle.feed_meaning.specs.FeedFaults.{Feature, Geo, feature_entry, features, features_in, feed_contents, feed_files, feed_level_one, feed_level_two, tables}
 use Rattle.feed_meaning.specs.FeedLinks.{Tables, is_before, is_unknown_service}
@@ -28,9 +28,25 @@ use Rattle.feed_meaning.proofs.RisingItems.{rising_all}
 use Rattle.feed_meaning.proofs.SoundChanges.{changes_rise, changes_sound}
 use Rattle.feed_meaning.proofs.SoundLists.{feed, groups_named, groups_sound, rules_named, service_low, services_named, stops_named, stops_on_globe, trips_named, zones_named, zones_sound}
 use Rattle.feed_meaning.proofs.SoundNotices.{notices_sound}
+use Rattle.feed_meaning.proofs.SoundRepeats.{frequent_is, repeats_sound}
 use Rattle.feed_meaning.proofs.TripOrder.{has_number, number_rises, records_of, records_rise}
 use Rattle.feed_meaning.proofs.TripRows.{kept_record, row_sound}
 use Rattle.feed_meaning.proofs.TripTimes.{times_rise}
+
+-- in rows that rise, each sequence is at least the row's place
+at-least : (rows : List Row) (d : Row) (k : ℕ) → AllPairs (λ a b. a.sequence < b.sequence) rows → k < length rows → k ≤ (get_or rows k d).sequence
+at-least rows d zero rising low = omega arith
+at-least rows d (suc k) rising low =
+    let before = at-least rows d k rising (omega arith) in
+    let more = rising k (suc k) d (omega arith) low in
+    omega (arith, before, more)
+
+-- rows that rise below a number are no more than it
+rows-below : (rows : List Row) (d : Row) (n : ℕ) → AllPairs (λ a b. a.sequence < b.sequence) rows → All (λ (row : Row). row.sequence < n) rows → length rows ≤ n
+rows-below rows d n rising below = elim (cases_lt n (length rows)) [
+  | inl many ↦ let high = at-least rows d n rising many in let low = below n d many in absurd (omega (arith, high, low))
+  | inr few ↦ few
+]
 
 module _ (tables : Tables) (features : List Feature) (kept : KeepsFeedRules tables) (same : length (tables Locations) ≡ length features) where
   abbrev rs : List Values
@@ -64,10 +80,9 @@ module _ (tables : Tables) (features : List Feature) (kept : KeepsFeedRules tabl
 
   rows-few : (trip : List ℕ) → length (map (row_of tables) (sorted trip)) < 2 ^ 32
   rows-few trip =
-      let rows = map (row_of tables) (sorted trip) in
-      let short = rising_short (λ (a b : Row). a.sequence < b.sequence) (λ (row : Row). row.sequence < 4294967295) (λ (row : Row). row.sequence) 4294967295 (λ x y px py h. h) (λ x p. p) rows
-      (λ x c. All-contains (λ (row : Row). row.sequence < 4294967295) rows x (numbers-low trip) c) (rows-rise trip) in
-      omega (arith, short)
+      let no_row = row_of tables (λ column. []) in
+      let few = rows-below (map (row_of tables) (sorted trip)) no_row 4294967295 (rows-rise trip) (numbers-low trip) in
+      omega (arith, few)
 
   trips_sound : All (IsSoundTrip (feed tables features kept)) (feed tables features kept).trips
   trips_sound = All-map (IsSoundTrip (feed tables features kept)) (trip_of tables) (tables Trips) (λ i d low.
@@ -81,6 +96,8 @@ module _ (tables : Tables) (features : List Feature) (kept : KeepsFeedRules tabl
         rows = rows-sound trip;
         rising = rows-rise trip;
         times = AllPairs-map (λ (a b : Row). DoesNotFall a.timing b.timing) (row_of tables) (sorted trip) (times_rise tables kept trip);
+        frequent = frequent_is tables trip;
+        repeats = repeats_sound tables kept trip;
       })
 
   pub feed_sound : length features < 2 ^ 32 → AreIds (map (λ f. f.id) features) → All (λ f. All IsSoundPolygon f.polygons) features → IsSoundFeed (feed tables features kept)

@@ -104,7 +104,7 @@ module _ (feed : Feed) (times : Times) (sound : IsSoundFeed feed) where
       by true is here boards = (boarding_stop feed sound text (not-false (is_boarding_stop feed text) boards)).1
       by false is here boards = (place_passes (λ point. bytes_eq text point.id) times.points here).0
 
-  query-sound : (earlier : List Values) (r : Values) → ((k : ℕ) → k < 8 → get_or (query_rules feed times earlier r) k None ≡ None) → IsSoundQuery feed times (query_of feed times r)
+  query-sound : (earlier : List Values) (r : Values) → ((k : ℕ) → k < 9 → get_or (query_rules feed times earlier r) k None ≡ None) → IsSoundQuery feed times (query_of feed times r)
   query-sound earlier r kept =
       let horizon = positive 2880 (r "horizon") (count 2880 (r "horizon")) refl (is_kept code.BadNumber (not (is_positive_count 2880 (r "horizon"))) (kept 7 (lit< tt))) in
       record {

@@ -1,4 +1,5 @@
--- The fault list of a feed folder. Needed columns are those of the GTFS Schedule reference that this project reads.
+-- The fault list of a feed folder. Needed columns are those of the GTFS Schedule reference that
+-- this project reads.
 use Rattle.std.specs.Prelude.{ℕ, List, [], ◌∷◌, map}
 use Rattle.std.specs.List.{flat_map}
 use Rattle.feed_tables.specs.Records.{table_records}
@@ -33,7 +34,8 @@ Geo = List ℕ → Zones
 
 abbrev pub feed_files : List InputFile
 feed_files =
-    Agency ∷ Stops ∷ Routes ∷ Trips ∷ StopTimes ∷ Calendar ∷ CalendarDates ∷ Locations ∷ LocationGroups
+    Agency ∷ Stops ∷ Routes ∷ Trips ∷ StopTimes ∷ Calendar ∷ CalendarDates ∷ Locations
+    ∷ LocationGroups
     ∷ LocationGroupStops ∷ BookingRules ∷ Transfers ∷ Frequencies ∷ []
 
 -- a table's needed columns and its rules
@@ -56,7 +58,10 @@ abbrev pub stop_times_schema : Schema
 stop_times_schema = table ("trip_id" ∷ "stop_sequence" ∷ []) stop_time_rules
 
 abbrev pub calendar_schema : Schema
-calendar_schema = table ("service_id" ∷ "monday" ∷ "tuesday" ∷ "wednesday" ∷ "thursday" ∷ "friday" ∷ "saturday" ∷ "sunday" ∷ "start_date" ∷ "end_date" ∷ []) calendar_rules
+calendar_schema =
+    table ("service_id" ∷ "monday" ∷ "tuesday" ∷ "wednesday" ∷ "thursday" ∷ "friday" ∷ "saturday"
+    ∷ "sunday" ∷ "start_date" ∷ "end_date" ∷ [])
+    calendar_rules
 
 abbrev pub calendar_dates_schema : Schema
 calendar_dates_schema = table ("service_id" ∷ "date" ∷ "exception_type" ∷ []) calendar_date_rules
@@ -74,7 +79,8 @@ abbrev pub transfers_schema : Schema
 transfers_schema = table ("transfer_type" ∷ []) transfer_rules
 
 abbrev pub frequencies_schema : Schema
-frequencies_schema = table ("trip_id" ∷ "start_time" ∷ "end_time" ∷ "headway_secs" ∷ []) frequency_rules
+frequencies_schema =
+    table ("trip_id" ∷ "start_time" ∷ "end_time" ∷ "headway_secs" ∷ []) frequency_rules
 
 -- the faults of each file of a feed by its bytes
 abbrev pub feed_contents : Geo → Contents
@@ -84,13 +90,18 @@ feed_contents geo Routes bytes = table_faults Routes routes_schema (table_record
 feed_contents geo Trips bytes = table_faults Trips trips_schema (table_records bytes)
 feed_contents geo StopTimes bytes = table_faults StopTimes stop_times_schema (table_records bytes)
 feed_contents geo Calendar bytes = table_faults Calendar calendar_schema (table_records bytes)
-feed_contents geo CalendarDates bytes = table_faults CalendarDates calendar_dates_schema (table_records bytes)
+feed_contents geo CalendarDates bytes =
+    table_faults CalendarDates calendar_dates_schema (table_records bytes)
 feed_contents geo Locations bytes = map (λ f. fault Locations f.0 f.1) (geo bytes).faults
-feed_contents geo LocationGroups bytes = table_faults LocationGroups groups_schema (table_records bytes)
-feed_contents geo LocationGroupStops bytes = table_faults LocationGroupStops group_stops_schema (table_records bytes)
-feed_contents geo BookingRules bytes = table_faults BookingRules booking_rules_schema (table_records bytes)
+feed_contents geo LocationGroups bytes =
+    table_faults LocationGroups groups_schema (table_records bytes)
+feed_contents geo LocationGroupStops bytes =
+    table_faults LocationGroupStops group_stops_schema (table_records bytes)
+feed_contents geo BookingRules bytes =
+    table_faults BookingRules booking_rules_schema (table_records bytes)
 feed_contents geo Transfers bytes = table_faults Transfers transfers_schema (table_records bytes)
-feed_contents geo Frequencies bytes = table_faults Frequencies frequencies_schema (table_records bytes)
+feed_contents geo Frequencies bytes =
+    table_faults Frequencies frequencies_schema (table_records bytes)
 feed_contents geo file bytes = []
 
 -- the faults of each file by itself, in the order of the files
@@ -134,7 +145,9 @@ links_of Frequencies = frequency_links
 links_of file = no_links
 
 abbrev pub link_faults : Geo → Folder → InputFile → List Fault
-link_faults geo folder file = flat_map (λ e. faults_at file e.row (links_of file (tables geo folder) e.values)) (feed_entries geo folder file)
+link_faults geo folder file =
+    flat_map (λ e. faults_at file e.row (links_of file (tables geo folder) e.values))
+    (feed_entries geo folder file)
 
 -- the faults between the files, in the order of the files
 abbrev pub feed_level_two : Geo → Folder → List Fault
@@ -145,6 +158,6 @@ abbrev pub first_list : List Fault → List Fault → List Fault
 first_list [] second = second
 first_list (f ∷ more) second = f ∷ more
 
--- the fault list of a feed: the files by themselves, and where there is no such fault, between the files
+-- the fault list of a feed: the files by themselves, and where that is empty, between the files
 abbrev pub feed_faults : Geo → Folder → List Fault
 feed_faults geo folder = first_list (feed_level_one geo folder) (feed_level_two geo folder)

@@ -1,5 +1,6 @@
--- The rules that tie the tables of a feed to each other, a line a rule, by the references between files of the GTFS
--- Schedule reference. That the times of a trip don't fall, and where they may be left out, is this project's own form of it.
+-- The rules that tie the tables of a feed to each other, a line a rule, by the references between
+-- files of the GTFS Schedule reference. That the times of a trip don't fall, and where they may be
+-- left out, is this project's own form of it.
 use Rattle.std.specs.Prelude.{ℕ, nat_lt, Bool, not, ◌&&◌, ◌||◌, if◌then◌else◌, List, [], ◌∷◌, filter, Option}
 use Rattle.std.specs.List.{find, list_any}
 use Rattle.std.specs.Option.{option_and_then, option_or}
@@ -13,7 +14,8 @@ use Rattle.field_text.specs.Grammars.{time}
 use Rattle.feed_meaning.specs.Rules.{Rule, Values, rule, stand}
 use Prim.Native.String.{String}
 
--- the records of each file. Those of locations.geojson are its features, whose one column is their id
+-- the records of each file. Those of locations.geojson are its features, with their id as the one
+-- column
 abbrev pub Tables : Type 0
 Tables = InputFile → List Values
 
@@ -31,11 +33,14 @@ is_unknown tables file column text = is_given text && not (is_in tables file col
 
 -- a text that is given, and no service of either calendar
 abbrev pub is_unknown_service : Tables → List ℕ → Bool
-is_unknown_service tables text = is_unknown tables Calendar "service_id" text && is_unknown tables CalendarDates "service_id" text
+is_unknown_service tables text =
+    is_unknown tables Calendar "service_id" text
+    && is_unknown tables CalendarDates "service_id" text
 
 -- the text is the id of a stop where one can't board, as a station
 abbrev pub is_station : Tables → List ℕ → Bool
-is_station tables text = list_any (λ s. bytes_eq text (s "stop_id") && not (is_boarding s)) (tables Stops)
+is_station tables text =
+    list_any (λ s. bytes_eq text (s "stop_id") && not (is_boarding s)) (tables Stops)
 
 abbrev pub trip_links : Links
 trip_links tables r =
@@ -45,7 +50,9 @@ trip_links tables r =
 
 -- a is a record of the same trip as b, with a lesser stop_sequence
 abbrev pub is_before : Values → Values → Bool
-is_before a b = bytes_eq (a "trip_id") (b "trip_id") && stand nat_lt (sequence (a "stop_sequence")) (sequence (b "stop_sequence"))
+is_before a b =
+    bytes_eq (a "trip_id") (b "trip_id")
+    && stand nat_lt (sequence (a "stop_sequence")) (sequence (b "stop_sequence"))
 
 abbrev pub is_timed : Values → Bool
 is_timed r = not (has_window r) && has_time r
@@ -62,16 +69,31 @@ departure r = option_or (time (r "departure_time")) (time (r "arrival_time"))
 
 -- of the records before r in its trip the nearest one, and of those after it
 abbrev pub nearest_before : List Values → Values → Option Values
-nearest_before records r = find (λ a. is_before a r && not (list_any (λ b. is_before a b && is_before b r) records)) records
+nearest_before records r =
+    find
+    (λ a. is_before a r && not (list_any (λ b. is_before a b && is_before b r) records))
+    records
 
 abbrev pub nearest_after : List Values → Values → Option Values
-nearest_after records r = find (λ a. is_before r a && not (list_any (λ b. is_before r b && is_before b a) records)) records
+nearest_after records r =
+    find
+    (λ a. is_before r a && not (list_any (λ b. is_before r b && is_before b a) records))
+    records
 
 -- the first or the last record without window of its trip
 abbrev pub is_end : List Values → Values → Bool
 is_end stop_times r =
     let windowless = filter (λ s. not (has_window s)) stop_times in
     not (list_any (λ s. is_before s r) windowless) || not (list_any (λ s. is_before r s) windowless)
+
+abbrev pub is_unknown_rule : Tables → List ℕ → Bool
+is_unknown_rule tables text = is_unknown tables BookingRules "booking_rule_id" text
+
+-- a record with times is reached before its nearest timed record before it is left
+abbrev pub falls_back : Tables → Values → Bool
+falls_back tables r =
+    let timed = filter is_timed (tables StopTimes) in
+    is_timed r && stand is_later (option_and_then departure (nearest_before timed r)) (arrival r)
 
 abbrev pub stop_time_links : Links
 stop_time_links tables r =
@@ -80,10 +102,10 @@ stop_time_links tables r =
     ∷ rule BadStopKind (is_given (r "stop_id") && is_station tables (r "stop_id"))
     ∷ rule UnknownId (is_unknown tables LocationGroups "location_group_id" (r "location_group_id"))
     ∷ rule UnknownId (is_unknown tables Locations "id" (r "location_id"))
-    ∷ rule UnknownId (is_unknown tables BookingRules "booking_rule_id" (r "pickup_booking_rule_id"))
-    ∷ rule UnknownId (is_unknown tables BookingRules "booking_rule_id" (r "drop_off_booking_rule_id"))
+    ∷ rule UnknownId (is_unknown_rule tables (r "pickup_booking_rule_id"))
+    ∷ rule UnknownId (is_unknown_rule tables (r "drop_off_booking_rule_id"))
     ∷ rule UntimedEnd (is_untimed r && is_end (tables StopTimes) r)
-    ∷ rule TimeOrder (is_timed r && stand is_later (option_and_then departure (nearest_before (filter is_timed (tables StopTimes)) r)) (arrival r))
+    ∷ rule TimeOrder (falls_back tables r)
     ∷ []
 
 abbrev pub location_links : Links
@@ -93,7 +115,8 @@ location_links tables r =
 
 abbrev pub group_links : Links
 group_links tables r =
-    rule SharedId (is_in tables Stops "stop_id" (r "location_group_id") || is_in tables Locations "id" (r "location_group_id"))
+    let id = r "location_group_id" in
+    rule SharedId (is_in tables Stops "stop_id" id || is_in tables Locations "id" id)
     ∷ []
 
 abbrev pub group_stop_links : Links

@@ -1,5 +1,6 @@
--- The feed that an accepted folder holds, read as the GTFS Schedule reference with GTFS-Flex says. Times between the timed
--- records of a trip are this project's own. Where a text names nothing, which no accepted folder has, a first one stands in.
+-- The feed that an accepted folder holds, read as the GTFS Schedule reference with GTFS-Flex says.
+-- Times between the timed records of a trip are this project's own. Where a text names nothing,
+-- which no accepted folder has, a first one stands in.
 use Rattle.std.specs.Prelude.{ℕ, ◌+◌, ◌-◌, ◌*◌, ◌/◌, ◌==◌, nat_lt, Bool, false, not, ◌&&◌, ◌||◌, if◌then◌else◌, ℤ, pos, List, [], ◌∷◌, ◌++◌, count_by, filter, length, map, position, Option, Some, None, unwrap_or}
 use Rattle.std.specs.List.{enumerate_from, find, flat_map, list_any, range_with_len}
 use Rattle.std.specs.Option.{option_map_or}
@@ -20,6 +21,7 @@ use Rattle.flex_model.specs.declared.place.Group.{Group}
 use Rattle.flex_model.specs.declared.place.Stop.{Stop}
 use Rattle.flex_model.specs.declared.place.Zone.{Zone}
 use Rattle.flex_model.specs.declared.service.Service.{Service}
+use Rattle.flex_model.specs.declared.trip.Repeat.{Repeat}
 use Rattle.flex_model.specs.declared.trip.Row.{Row}
 use Rattle.flex_model.specs.declared.trip.Spot.{Spot}
 use Rattle.flex_model.specs.declared.trip.Spot.TheVariants as spot
@@ -44,11 +46,14 @@ places_where test items = map (λ p. p.0) (filter (λ p. test p.1) (enumerate_fr
 
 -- the items in rising order: the k-th are those that k others come before
 abbrev pub rising : {X : Type 0} → (X → X → Bool) → List X → List X
-rising comes_before items = flat_map (λ k. filter (λ x. count_by (λ y. comes_before y x) items == k) items) (range_with_len 0 (length items))
+rising comes_before items =
+    flat_map (λ k. filter (λ x. count_by (λ y. comes_before y x) items == k) items)
+    (range_with_len 0 (length items))
 
 -- each text once, by its first appearance
 abbrev pub first_appearances : List (List ℕ) → List (List ℕ)
-first_appearances texts = map (λ p. p.1) (filter (λ p. not (list_any (bytes_eq p.1) p.0)) (with_earlier texts))
+first_appearances texts =
+    map (λ p. p.1) (filter (λ p. not (list_any (bytes_eq p.1) p.0)) (with_earlier texts))
 
 -- the place of the first item that passes
 abbrev pub place_of : {X : Type 0} → (X → Bool) → List X → ℕ
@@ -70,36 +75,56 @@ abbrev pub seconds : List ℕ → ℕ
 seconds text = unwrap_or (time text) 0
 
 abbrev pub stop_of : Values → Stop
-stop_of r = record { id = r "stop_id"; at = record { lon = coordinate 180 (r "stop_lon"); lat = coordinate 90 (r "stop_lat") }; boards = is_boarding r }
+stop_of r = record {
+  id = r "stop_id";
+  at = record { lon = coordinate 180 (r "stop_lon"); lat = coordinate 90 (r "stop_lat") };
+  boards = is_boarding r;
+}
 
 -- a zone with the stops that it serves
 abbrev pub zone_of : List Stop → Feature → Zone
-zone_of stops feature = record { id = feature.id; polygons = feature.polygons; stops = places_where (λ stop. stop.boards && is_in_zone feature.polygons stop.at) stops }
+zone_of stops feature = record {
+  id = feature.id;
+  polygons = feature.polygons;
+  stops = places_where (λ stop. stop.boards && is_in_zone feature.polygons stop.at) stops;
+}
 
 -- the group and the stop are paired
 abbrev pub is_paired : Tables → Values → Values → Bool
 is_paired tables group stop =
-    list_any (λ p. bytes_eq (group "location_group_id") (p "location_group_id") && bytes_eq (stop "stop_id") (p "stop_id")) (tables LocationGroupStops)
+    list_any
+    (λ p. bytes_eq (group "location_group_id") (p "location_group_id")
+    && bytes_eq (stop "stop_id") (p "stop_id"))
+    (tables LocationGroupStops)
 
 abbrev pub group_of : Tables → Values → Group
-group_of tables r = record { id = r "location_group_id"; members = places_where (is_paired tables r) (tables Stops) }
+group_of tables r = record {
+  id = r "location_group_id";
+  members = places_where (is_paired tables r) (tables Stops);
+}
 
 abbrev pub service_ids : Tables → List (List ℕ)
-service_ids tables = first_appearances (map (λ r. r "service_id") (tables Calendar ++ tables CalendarDates))
+service_ids tables =
+    first_appearances (map (λ r. r "service_id") (tables Calendar ++ tables CalendarDates))
 
 abbrev pub day : List ℕ → ℤ
 day text = unwrap_or (date text) (pos 0)
 
 -- the flags of a week, from Monday
 abbrev pub week : Values → List Bool
-week r = map (λ name. is_text (r name) "1") ("monday" ∷ "tuesday" ∷ "wednesday" ∷ "thursday" ∷ "friday" ∷ "saturday" ∷ "sunday" ∷ [])
+week r =
+    map (λ name. is_text (r name) "1")
+    ("monday" ∷ "tuesday" ∷ "wednesday" ∷ "thursday" ∷ "friday" ∷ "saturday" ∷ "sunday" ∷ [])
 
 abbrev pub no_days : List Bool
 no_days = false ∷ false ∷ false ∷ false ∷ false ∷ false ∷ false ∷ []
 
 -- the dates of a service with this exception type
 abbrev pub exceptions : Tables → List ℕ → String → List ℤ
-exceptions tables id kind = map (λ r. day (r "date")) (filter (λ r. bytes_eq id (r "service_id") && is_text (r "exception_type") kind) (tables CalendarDates))
+exceptions tables id kind =
+    map (λ r. day (r "date"))
+    (filter (λ r. bytes_eq id (r "service_id") && is_text (r "exception_type") kind)
+    (tables CalendarDates))
 
 abbrev pub service_of : Tables → List ℕ → Service
 service_of tables id =
@@ -117,24 +142,34 @@ abbrev pub service_index : Tables → List ℕ → ℕ
 service_index tables id = place_of (bytes_eq id) (service_ids tables)
 
 abbrev pub start : Values → Prior
-start r = record { days = number (r "prior_notice_start_day"); time = seconds (r "prior_notice_start_time") }
+start r = record {
+  days = number (r "prior_notice_start_day");
+  time = seconds (r "prior_notice_start_time");
+}
 
 abbrev pub last : Values → Prior
-last r = record { days = number (r "prior_notice_last_day"); time = seconds (r "prior_notice_last_time") }
+last r = record {
+  days = number (r "prior_notice_last_day");
+  time = seconds (r "prior_notice_last_time");
+}
 
 abbrev pub has_start : Values → Bool
 has_start r = is_given (r "prior_notice_start_day")
 
 abbrev pub opening_of : Values → SameDay
 opening_of r =
-    if is_given (r "prior_notice_duration_max") then Greatest (number (r "prior_notice_duration_max"))
+    if is_given (r "prior_notice_duration_max")
+    then Greatest (number (r "prior_notice_duration_max"))
     else if has_start r then Start (start r)
     else Always
 
 abbrev pub notice_of : Tables → Values → Notice
 notice_of tables r =
-    if is_text (r "booking_type") "1" then Ahead (number (r "prior_notice_duration_min")) (opening_of r)
-    else if is_text (r "booking_type") "2" then Days (last r) (if has_start r then Some (start r) else None) (index_if_given (service_index tables) (r "prior_notice_service_id"))
+    if is_text (r "booking_type") "1"
+    then Ahead (number (r "prior_notice_duration_min")) (opening_of r)
+    else if is_text (r "booking_type") "2"
+    then Days (last r) (if has_start r then Some (start r) else None)
+    (index_if_given (service_index tables) (r "prior_notice_service_id"))
     else RealTime
 
 abbrev pub rule_of : Tables → Values → Rule
@@ -150,20 +185,23 @@ rule_of tables r = record {
 abbrev pub spot_of : Tables → Values → Spot
 spot_of tables r =
     if is_given (r "stop_id") then spot.Stop (index_in tables Stops "stop_id" (r "stop_id"))
-    else if is_given (r "location_group_id") then spot.Group (index_in tables LocationGroups "location_group_id" (r "location_group_id"))
+    else if is_given (r "location_group_id")
+    then spot.Group (index_in tables LocationGroups "location_group_id" (r "location_group_id"))
     else spot.Zone (index_in tables Locations "id" (r "location_id"))
 
 -- how many records lie between two of a trip
 abbrev pub count_between : List Values → Values → Values → ℕ
 count_between records a b = count_by (λ s. is_before a s && is_before s b) records
 
--- The time of a record that has none, between the departure of one and the arrival of another timed record: in equal
--- parts, rounded down.
+-- The time of a record that has none, between the departure of one and the arrival of another timed
+-- record: in equal parts, rounded down.
 abbrev pub time_between : List Values → Values → Values → Values → ℕ
 time_between windowless former latter r =
     let leaves = unwrap_or (departure former) 0 in
     let arrives = unwrap_or (arrival latter) 0 in
-    leaves + (arrives - leaves) * (count_between windowless former r + 1) / (count_between windowless former latter + 1)
+    leaves
+    + (arrives - leaves) * (count_between windowless former r + 1)
+    / (count_between windowless former latter + 1)
 
 abbrev pub filled_between : List Values → Option Values → Option Values → Values → ℕ
 filled_between windowless (Some former) (Some latter) r = time_between windowless former latter r
@@ -174,19 +212,23 @@ filled_between windowless None latter r = 0
 abbrev pub filled : List Values → Values → ℕ
 filled stop_times r =
     let timed = filter is_timed stop_times in
-    filled_between (filter (λ s. not (has_window s)) stop_times) (nearest_before timed r) (nearest_after timed r) r
+    let windowless = filter (λ s. not (has_window s)) stop_times in
+    filled_between windowless (nearest_before timed r) (nearest_after timed r) r
 
 abbrev pub timing_of : Tables → Values → Timing
 timing_of tables r =
-    if has_window r then timing.Window (seconds (r "start_pickup_drop_off_window")) (seconds (r "end_pickup_drop_off_window"))
+    if has_window r
+    then timing.Window (seconds (r "start_pickup_drop_off_window"))
+    (seconds (r "end_pickup_drop_off_window"))
     else if has_time r then timing.Times (unwrap_or (arrival r) 0) (unwrap_or (departure r) 0)
     else timing.Times (filled (tables StopTimes) r) (filled (tables StopTimes) r)
 
--- Without pickup or drop-off at type 1. Booked at type 2, and at no type beside a window. Free otherwise.
+-- None at type 1. Booked at type 2, and at no type beside a window. Free otherwise.
 abbrev pub way_of : Tables → Bool → List ℕ → List ℕ → Way
 way_of tables windowed kind booking_rule =
     if is_text kind "1" then No
-    else if is_text kind "2" || (is_empty kind && windowed) then Book (index_if_given (index_in tables BookingRules "booking_rule_id") booking_rule)
+    else if is_text kind "2" || (is_empty kind && windowed)
+    then Book (index_if_given (index_in tables BookingRules "booking_rule_id") booking_rule)
     else Free
 
 abbrev pub row_of : Tables → Values → Row
@@ -198,12 +240,27 @@ row_of tables r = record {
   drop_off = way_of tables (has_window r) (r "drop_off_type") (r "drop_off_booking_rule_id");
 }
 
+-- the starts of a trip by a record of frequencies.txt
+abbrev pub repeat_of : Values → Repeat
+repeat_of r = record {
+  first = seconds (r "start_time");
+  end = seconds (r "end_time");
+  headway = number (r "headway_secs");
+}
+
+-- the records of a file that name a trip, in file order
+abbrev pub records_of_trip : Tables → InputFile → List ℕ → List Values
+records_of_trip tables file trip = filter (λ s. bytes_eq trip (s "trip_id")) (tables file)
+
+-- A trip has its records of stop_times.txt rising, and those of frequencies.txt in file order. It
+-- is frequent where there is one of the latter.
 abbrev pub trip_of : Tables → Values → Trip
 trip_of tables r = record {
   id = r "trip_id";
   service = service_index tables (r "service_id");
   frequent = is_in tables Frequencies "trip_id" (r "trip_id");
-  rows = map (row_of tables) (rising is_before (filter (λ s. bytes_eq (r "trip_id") (s "trip_id")) (tables StopTimes)));
+  repeats = map repeat_of (records_of_trip tables Frequencies (r "trip_id"));
+  rows = map (row_of tables) (rising is_before (records_of_trip tables StopTimes (r "trip_id")));
 }
 
 -- the record of a stop where one can board
@@ -220,7 +277,9 @@ abbrev pub change_of : Tables → Values → ChangeRow
 change_of tables r = record {
   from = index_in tables Stops "stop_id" (r "from_stop_id");
   to = index_in tables Stops "stop_id" (r "to_stop_id");
-  kind = if is_text (r "transfer_type") "2" then Least (number (r "min_transfer_time")) else Forbidden;
+  kind =
+      if is_text (r "transfer_type") "2" then Least (number (r "min_transfer_time"))
+      else Forbidden;
 }
 
 abbrev pub change_before : ChangeRow → ChangeRow → Bool
@@ -237,7 +296,9 @@ feed_of_tables tables zones =
       services = map (service_of tables) (service_ids tables);
       rules = map (rule_of tables) (tables BookingRules);
       trips = map (trip_of tables) (tables Trips);
-      changes = rising change_before (map (change_of tables) (filter (is_change tables) (tables Transfers)));
+      changes =
+          rising change_before
+          (map (change_of tables) (filter (is_change tables) (tables Transfers)));
     }
 
 -- the feed of a folder

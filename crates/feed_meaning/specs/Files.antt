@@ -1,4 +1,5 @@
--- The input files' names and limits, what a fetch within a limit gives, and the printed names of the fault codes.
+-- The input files' names and limits, what a fetch within a limit gives, and the printed names of
+-- the fault codes.
 use Rattle.std.specs.Prelude.{ℕ, nat_lt, if◌then◌else◌, List, length, Option, Some, None, codes}
 use Rattle.flex_model.specs.declared.fault.FaultCode.{FaultCode}
 use Rattle.flex_model.specs.declared.fault.FaultCode.TheVariants as code
@@ -7,8 +8,9 @@ use Rattle.flex_model.specs.declared.fault.InputFile.TheVariants.{Agency, Stops,
 use Rattle.flex_model.specs.declared.fault.RawFile.{RawFile}
 use Rattle.flex_model.specs.declared.fault.RawFile.TheVariants.{Absent, TooLarge, Bytes}
 
--- A file's name in its folder and in printed faults: of a feed as the GTFS Schedule reference and its Flex files name
--- it, of a times folder this project's own. The query file has any name, and is printed as `queries`.
+-- A file's name in its folder and in printed faults: of a feed as the GTFS Schedule reference and
+-- its Flex files name it, of a times folder this project's own. The query file has any name, and is
+-- printed as `queries`.
 abbrev pub file_name : InputFile → List ℕ
 file_name Agency = codes "agency.txt"
 file_name Stops = codes "stops.txt"
@@ -30,8 +32,8 @@ file_name Direct = codes "direct.txt"
 file_name Walks = codes "walks.txt"
 file_name Queries = codes "queries"
 
--- The most bytes that a file may have, this project's own: 256 MiB for the two long tables, 1 MiB for a zone and
--- 64 MiB for each other file.
+-- The most bytes that a file may have, this project's own: 256 MiB for the two long tables, 1 MiB
+-- for a zone and 64 MiB for each other file.
 abbrev pub byte_limit : InputFile → ℕ
 byte_limit StopTimes = 268435456
 byte_limit Direct = 268435456

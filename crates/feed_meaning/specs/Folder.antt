@@ -1,5 +1,6 @@
--- The files of a folder: which are there, which are needed, and the faults of each by itself. A feed needs what the GTFS
--- Schedule reference requires of these files. The times folder and the query file are this project's own.
+-- The files of a folder: which are there, which are needed, and the faults of each by itself. A
+-- feed needs what the GTFS Schedule reference requires of these files. The times folder and the
+-- query file are this project's own.
 use Rattle.std.specs.Prelude.{ℕ, Bool, true, false, not, ◌&&◌, if◌then◌else◌, List, [], ◌∷◌}
 use Rattle.feed_tables.specs.Records.{table_records}
 use Rattle.flex_model.specs.declared.fault.Fault.{Fault}
@@ -14,7 +15,8 @@ use Rattle.feed_meaning.specs.Tables.{Entry, entries_of, fault}
 abbrev pub Folder : Type 0
 Folder = InputFile → RawFile
 
--- The file is a table that counts as absent where it has no record. The other tables then lack their header.
+-- The file is a table that counts as absent where it has no record. The other tables then lack
+-- their header.
 abbrev pub may_be_blank : InputFile → Bool
 may_be_blank Agency = false
 may_be_blank Routes = false
@@ -34,7 +36,8 @@ has_no_record (header ∷ records) = false
 abbrev pub counts_as_present : InputFile → RawFile → Bool
 counts_as_present file Absent = false
 counts_as_present file TooLarge = true
-counts_as_present file (Bytes bytes) = not (may_be_blank file && has_no_record (table_records bytes))
+counts_as_present file (Bytes bytes) =
+    not (may_be_blank file && has_no_record (table_records bytes))
 
 abbrev pub is_present : Folder → InputFile → Bool
 is_present folder file = counts_as_present file (folder file)

@@ -1,5 +1,5 @@
--- What the bytes of locations.geojson hold, a GeoJSON text (RFC 7946, RFC 8259): the first fault of the walk over its
--- value, or its features. A ring has four or more positions and is closed.
+-- What the bytes of locations.geojson hold, a GeoJSON text (RFC 7946, RFC 8259): the first fault of
+-- the walk over its value, or its features. A ring has four or more positions and is closed.
 use Rattle.std.specs.Prelude.{ℕ, ◌+◌, nat_eq, nat_lt, nat_le, Bool, true, not, ◌&&◌, ◌||◌, if◌then◌else◌, pos, List, [], ◌∷◌, ◌++◌, count_by, drop, get_or, length, map, take, Option, Some, None, is_none, unwrap_or, codes}
 use Rattle.std.specs.List.{filter_map, flat_map, list_any, starts_with}
 use Rattle.std.specs.Option.{option_map_or}
@@ -15,8 +15,8 @@ use Rattle.field_text.specs.Grammars.{degree}
 use Rattle.feed_meaning.specs.Tables.{with_earlier}
 use Prim.Native.String.{String}
 
--- A JSON value by its nodes. A node has a place in the text, and what its kind has: a member is the first one of that
--- name, and only an object has one; only a list has items.
+-- A JSON value by its nodes. A node has a place in the text, and what its kind has: a member is the
+-- first one of that name, and only an object has one; only a list has items.
 pub record Json : Type 0 where
   pub root : ℕ
   pub place : ℕ → ℕ
@@ -45,7 +45,8 @@ check holds place code = if holds then None else Some (place, code)
 -- the member's value passes; where there is none the object itself is at fault
 abbrev pub check_member : Json → ℕ → String → (ℕ → Bool) → Check
 check_member json object name test =
-    option_map_or (λ value. check (test value) (json.place value) GeoShape) (json.member object (codes name)) (Some (json.place object, GeoShape))
+    option_map_or (λ value. check (test value) (json.place value) GeoShape)
+    (json.member object (codes name)) (Some (json.place object, GeoShape))
 
 abbrev pub is_word : Json → String → ℕ → Bool
 is_word json word node = json.is_word node && bytes_eq (json.text node) (codes word)
@@ -69,7 +70,10 @@ is_degree json greatest node = not (is_none (degree greatest (json.digits node))
 
 abbrev pub position_checks : Json → ℕ → List Check
 position_checks json p =
-    check (json.is_list p && nat_le 2 (length (json.items p)) && json.is_number (longitude json p) && json.is_number (latitude json p)) (json.place p) GeoShape
+    check
+    (json.is_list p && nat_le 2 (length (json.items p)) && json.is_number (longitude json p)
+    && json.is_number (latitude json p))
+    (json.place p) GeoShape
     ∷ check (is_degree json 180 (longitude json p)) (json.place (longitude json p)) BadCoordinate
     ∷ check (is_degree json 90 (latitude json p)) (json.place (latitude json p)) BadCoordinate
     ∷ []
@@ -107,14 +111,16 @@ polygon_checks json polygon =
 -- the polygons of a geometry, by its type
 abbrev pub polygons : Json → ℕ → List ℕ
 polygons json geometry =
-    if is_word json "Polygon" (member json geometry "type") then member json geometry "coordinates" ∷ []
+    if is_word json "Polygon" (member json geometry "type")
+    then member json geometry "coordinates" ∷ []
     else json.items (member json geometry "coordinates")
 
 abbrev pub geometry_checks : Json → ℕ → List Check
 geometry_checks json g =
     check_member json g "type" (λ v. is_word json "Polygon" v || is_word json "MultiPolygon" v)
     ∷ check_member json g "coordinates" json.is_list
-    ∷ check (is_filled_list json (member json g "coordinates")) (json.place (member json g "coordinates")) GeoShape
+    ∷ check (is_filled_list json (member json g "coordinates"))
+    (json.place (member json g "coordinates")) GeoShape
     ∷ flat_map (polygon_checks json) (polygons json g)
 
 abbrev pub feature_checks : Json → ℕ → List Check
@@ -141,7 +147,9 @@ abbrev pub row_at : List ℕ → ℕ → ℕ
 row_at text place = 1 + count_by (nat_eq 10) (take place text)
 
 abbrev pub polygon_of : Json → ℕ → Polygon
-polygon_of json polygon = record { rings = map (λ ring. record { corners = corners json ring }) (json.items polygon) }
+polygon_of json polygon = record {
+  rings = map (λ ring. record { corners = corners json ring }) (json.items polygon);
+}
 
 abbrev pub feature_of : List ℕ → Json → ℕ → Feature
 feature_of text json f = record {
@@ -152,7 +160,10 @@ feature_of text json f = record {
 
 -- features with an id that an earlier one has
 abbrev pub repeated : List Feature → List (ℕ × FaultCode)
-repeated features = filter_map (λ p. if list_any (λ e. bytes_eq p.1.id e.id) p.0 then Some (p.1.row, DuplicateKey) else None) (with_earlier features)
+repeated features =
+    filter_map
+    (λ p. if list_any (λ e. bytes_eq p.1.id e.id) p.0 then Some (p.1.row, DuplicateKey) else None)
+    (with_earlier features)
 
 abbrev pub walked : List Feature → List (ℕ × FaultCode) → Zones
 walked features [] = record { faults = repeated features; features = features }
@@ -168,11 +179,13 @@ one_fault row code = record { faults = (row, code) ∷ []; features = [] }
 abbrev pub zones_of_scan : List ℕ → Scan → Zones
 zones_of_scan text (syntax_fault place) = one_fault (row_at text place) JsonSyntax
 zones_of_scan text (depth_fault place) = one_fault (row_at text place) JsonDepth
-zones_of_scan text (scanned json) = walked (map (feature_of text json) (feature_nodes json)) (at_rows text (checks json))
+zones_of_scan text (scanned json) =
+    walked (map (feature_of text json) (feature_nodes json)) (at_rows text (checks json))
 
 -- a text without one byte order mark at its start
 abbrev pub without_mark : List ℕ → List ℕ
-without_mark bytes = if starts_with nat_eq bytes (0xEF ∷ 0xBB ∷ 0xBF ∷ []) then drop 3 bytes else bytes
+without_mark bytes =
+    if starts_with nat_eq bytes (0xEF ∷ 0xBB ∷ 0xBF ∷ []) then drop 3 bytes else bytes
 
 abbrev pub zones_of_text : (List ℕ → Scan) → List ℕ → Zones
 zones_of_text scan text =

@@ -60,11 +60,13 @@ abbrev pub are_same_pairs : {X Y : Type 0} → (X → X → Bool) → (Y → Y �
 are_same_pairs same same' p q = same p.0 q.0 && same' p.1 q.1
 
 -- an earlier record has the same key; only a key whose parts are all given and not bad counts
-abbrev pub repeats : {K : Type 0} → (K → K → Bool) → (Values → Option K) → List Values → Values → Bool
+abbrev pub repeats : {K : Type 0} → (K → K → Bool) → (Values → Option K) → List Values → Values
+    → Bool
 repeats same key earlier r = list_any (λ e. stand same (key r) (key e)) earlier
 
 abbrev pub repeats_id : String → List Values → Values → Bool
 repeats_id column earlier r = repeats bytes_eq (λ s. id (s column)) earlier r
 
 abbrev pub repeats_ids : String → String → List Values → Values → Bool
-repeats_ids first second earlier r = repeats (are_same_pairs bytes_eq bytes_eq) (λ s. both (id (s first)) (id (s second))) earlier r
+repeats_ids first second earlier r =
+    repeats (are_same_pairs bytes_eq bytes_eq) (λ s. both (id (s first)) (id (s second))) earlier r

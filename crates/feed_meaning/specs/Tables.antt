@@ -1,5 +1,5 @@
--- The records of a table's bytes, comma-separated values with a header (RFC 4180), and the faults of its records by the
--- rules of the table.
+-- The records of a table's bytes, comma-separated values with a header (RFC 4180), and the faults
+-- of its records by the rules of the table.
 use Rattle.std.specs.Prelude.{ℕ, Bool, not, List, [], ◌∷◌, ◌++◌, filter, map, position, Option, Some, None, is_some, codes}
 use Rattle.std.specs.List.{filter_map, flat_map}
 use Rattle.std.specs.Option.{option_map_or}
@@ -23,7 +23,8 @@ pub record Entry : Type 0 where
 
 -- the value of a record's fields at the column with this name in its table's header
 abbrev pub value_named : List (List ℕ) → List (List ℕ) → List ℕ → List ℕ
-value_named header fields name = option_map_or (value_at fields) (position (bytes_eq name) header) []
+value_named header fields name =
+    option_map_or (value_at fields) (position (bytes_eq name) header) []
 
 -- the values of a record
 abbrev pub values_of : List (List ℕ) → List (List ℕ) → Values
@@ -53,7 +54,9 @@ with_earlier items = with_earlier_from [] items
 
 -- For each record, for each rule that is broken there, its fault.
 abbrev pub record_faults : InputFile → Rules → List Entry → List Fault
-record_faults file rules entries = flat_map (λ p. faults_at file p.1.row (rules (map (λ e. e.values) p.0) p.1.values)) (with_earlier entries)
+record_faults file rules entries =
+    flat_map (λ p. faults_at file p.1.row (rules (map (λ e. e.values) p.0) p.1.values))
+    (with_earlier entries)
 
 -- a header names a column
 abbrev pub has_column : List (List ℕ) → String → Bool
@@ -80,15 +83,17 @@ missing_columns schema header = filter (λ column. not (has_column header column
 abbrev pub missing_faults : InputFile → List String → List Fault
 missing_faults file columns = map (λ column. fault file 1 code.MissingColumn) columns
 
--- the faults of a table that isn't refused: those of its needed columns alone, or those of its records
+-- the faults of a table that isn't refused: those of its needed columns alone, or of its records
 abbrev pub schema_faults : InputFile → Schema → List String → List (List (List ℕ)) → List Fault
 schema_faults file schema [] records = record_faults file schema.rules (entries_of records)
 schema_faults file schema (column ∷ more) records = missing_faults file (column ∷ more)
 
 -- a table that is refused has one fault
-abbrev pub accepted_faults : InputFile → Schema → Option TableRefusal → List (List (List ℕ)) → List Fault
+abbrev pub accepted_faults : InputFile → Schema → Option TableRefusal → List (List (List ℕ))
+    → List Fault
 accepted_faults file schema (Some r) records = refusal_fault file r
-accepted_faults file schema None records = schema_faults file schema (missing_columns schema (header_of records)) records
+accepted_faults file schema None records =
+    schema_faults file schema (missing_columns schema (header_of records)) records
 
 -- the faults of a table by itself
 abbrev pub table_faults : InputFile → Schema → List (List (List ℕ)) → List Fault

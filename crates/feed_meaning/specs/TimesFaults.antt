@@ -1,4 +1,5 @@
--- The fault list of a times folder, beside an accepted feed. The folder and its rules are this project's own.
+-- The fault list of a times folder, beside an accepted feed. The folder and its rules are this
+-- project's own.
 use Rattle.std.specs.Prelude.{ℕ, Bool, not, ◌&&◌, ◌||◌, if◌then◌else◌, List, [], ◌∷◌, ◌++◌, map}
 use Rattle.std.specs.List.{flat_map, list_any}
 use Rattle.std.specs.Str.{bytes_eq}
@@ -46,7 +47,8 @@ point_links feed r =
 
 -- the text is the id of a point, or of a stop where one can board
 abbrev pub is_place : Feed → List Values → List ℕ → Bool
-is_place feed points text = list_any (λ p. bytes_eq text (p "point_id")) points || is_boarding_stop feed text
+is_place feed points text =
+    list_any (λ p. bytes_eq text (p "point_id")) points || is_boarding_stop feed text
 
 abbrev pub span_links : Feed → List Values → Values → List Rule
 span_links feed points r =
@@ -59,7 +61,8 @@ abbrev pub BadZones : Type 0
 BadZones = InputFile → List ℕ → Bool
 
 abbrev pub zone_faults : BadZones → InputFile → List ℕ → List Fault
-zone_faults is_bad_zone file bytes = if is_bad_zone file bytes then fault file 0 BadZone ∷ [] else []
+zone_faults is_bad_zone file bytes =
+    if is_bad_zone file bytes then fault file 0 BadZone ∷ [] else []
 
 abbrev pub points_schema : Schema
 points_schema = table ("point_id" ∷ "point_lat" ∷ "point_lon" ∷ []) point_rules
@@ -80,16 +83,15 @@ times_contents is_bad_zone Direct bytes = table_faults Direct direct_schema (tab
 times_contents is_bad_zone Walks bytes = table_faults Walks walks_schema (table_records bytes)
 times_contents is_bad_zone file bytes = []
 
--- the file that tells the zone: zone.tzif only where zone.txt is absent
-abbrev pub zone_file : Folder → InputFile
-zone_file folder = if is_present folder ZoneText then ZoneText else ZoneTzif
-
 -- the files that are looked at: zone.tzif only where zone.txt is absent
 abbrev pub times_files : Folder → List InputFile
-times_files folder = ZoneText ∷ (if is_present folder ZoneText then [] else ZoneTzif ∷ []) ++ Points ∷ Direct ∷ Walks ∷ []
+times_files folder =
+    ZoneText ∷ (if is_present folder ZoneText then [] else ZoneTzif ∷ [])
+    ++ Points ∷ Direct ∷ Walks ∷ []
 
 abbrev pub times_level_one : BadZones → Folder → List Fault
-times_level_one is_bad_zone folder = flat_map (file_faults (times_contents is_bad_zone) folder) (times_files folder)
+times_level_one is_bad_zone folder =
+    flat_map (file_faults (times_contents is_bad_zone) folder) (times_files folder)
 
 abbrev pub points_of : Folder → List Values
 points_of folder = map (λ e. e.values) (entries folder Points)
@@ -101,11 +103,15 @@ times_links feed folder Walks r = span_links feed (points_of folder) r
 times_links feed folder file r = []
 
 abbrev pub times_link_faults : Feed → Folder → InputFile → List Fault
-times_link_faults feed folder file = flat_map (λ e. faults_at file e.row (times_links feed folder file e.values)) (entries folder file)
+times_link_faults feed folder file =
+    flat_map (λ e. faults_at file e.row (times_links feed folder file e.values))
+    (entries folder file)
 
 abbrev pub times_level_two : Feed → Folder → List Fault
-times_level_two feed folder = flat_map (times_link_faults feed folder) (Points ∷ Direct ∷ Walks ∷ [])
+times_level_two feed folder =
+    flat_map (times_link_faults feed folder) (Points ∷ Direct ∷ Walks ∷ [])
 
 -- the fault list of a times folder
 abbrev pub times_faults : BadZones → Feed → Folder → List Fault
-times_faults is_bad_zone feed folder = first_list (times_level_one is_bad_zone folder) (times_level_two feed folder)
+times_faults is_bad_zone feed folder =
+    first_list (times_level_one is_bad_zone folder) (times_level_two feed folder)

@@ -17,12 +17,15 @@ use Rattle.flex_model.specs.Times.{span_cmp}
 use Rattle.feed_meaning.specs.FeedValue.{coordinate, place_of, rising}
 use Rattle.feed_meaning.specs.Folder.{Folder, bytes_of, entries}
 use Rattle.field_text.specs.Grammars.{moment, number}
-use Rattle.feed_meaning.specs.Rules.{Values}
+use Rattle.feed_meaning.specs.Rules.{Values, is_text}
 use Rattle.feed_meaning.specs.Tables.{entries_of}
 use Rattle.feed_meaning.specs.TimesFaults.{is_stop}
 
 abbrev pub point_of : Values → Point
-point_of r = record { id = r "point_id"; at = record { lon = coordinate 180 (r "point_lon"); lat = coordinate 90 (r "point_lat") } }
+point_of r = record {
+  id = r "point_id";
+  at = record { lon = coordinate 180 (r "point_lon"); lat = coordinate 90 (r "point_lat") };
+}
 
 -- the stop or the point with this id
 abbrev pub place_named : Feed → List Point → List ℕ → Place
@@ -31,7 +34,11 @@ place_named feed points text =
     else place.Point (place_of (λ point. bytes_eq text point.id) points)
 
 abbrev pub span_of : Feed → List Point → Values → Span
-span_of feed points r = record { from = place_named feed points (r "from_id"); to = place_named feed points (r "to_id"); seconds = number (r "seconds") }
+span_of feed points r = record {
+  from = place_named feed points (r "from_id");
+  to = place_named feed points (r "to_id");
+  seconds = number (r "seconds");
+}
 
 -- by where they begin, and then by where they end
 abbrev pub span_before : Span → Span → Bool
@@ -53,6 +60,7 @@ times_of feed folder =
 abbrev pub moment_in : List ℕ → ℤ
 moment_in text = unwrap_or (moment 1990 2199 text) (pos 0)
 
+-- a query asks for walking where its record says 1
 abbrev pub query_of : Feed → Times → Values → Query
 query_of feed times r = record {
   id = r "query_id";
@@ -62,8 +70,10 @@ query_of feed times r = record {
   now = moment_in (r "now");
   transfers = number (r "transfers");
   horizon = number (r "horizon");
+  walking = is_text (r "walking") "1";
 }
 
 -- the queries of a query file
 abbrev pub queries_of : Feed → Times → RawFile → List Query
-queries_of feed times raw = map (λ e. query_of feed times e.values) (entries_of (table_records (bytes_of raw)))
+queries_of feed times raw =
+    map (λ e. query_of feed times e.values) (entries_of (table_records (bytes_of raw)))

@@ -3,7 +3,7 @@ use Rattle.std.specs.Prelude.{ℕ, List, ◌++◌, codes, ◌≤◌, length}
 use Rattle.flex_io.specs.Outside.{FileMap, bytes_at}
 use Rattle.flex_model.specs.declared.fault.InputFile.{InputFile}
 use Rattle.flex_model.specs.declared.fault.RawFile.{RawFile}
-use Rattle.flex_model.specs.declared.fault.RawFile.TheVariants.{Absent, TooLarge, Bytes}
+use Rattle.flex_model.specs.declared.fault.RawFile.TheVariants.{Bytes}
 use Rattle.feed_meaning.specs.Files.{byte_limit, file_name, raw_of}
 use Rattle.feed_meaning.specs.Folder.{Folder}
 

@@ -25,7 +25,8 @@ pub fn value<'a>(row: &RowView<'a>, column: Option<u32>) -> &'a str
 /// The ids in a column of a table.
 pub fn ids_in<'a>(alloc: Global, table: &'a Table, name: &str) -> Result<Ids<'a>, NoMemory>
     requires { name.now ≢ [] }
-    ensures { IfOk result (λ ids. ids ≡ fold noted [] (map (λ row. value_named (header_of table.now) row.fields name.now) (rows_of table.now))) }
+    ensures { IfOk result (λ ids. ids ≡ fold noted []
+        (map (λ row. value_named (header_of table.now) row.fields name.now) (rows_of table.now))) }
 {
     let column = table.column(name);
     let mut ids = Ids::new(alloc);

@@ -19,7 +19,8 @@ pub fn rule(code: FaultCode, is_broken: bool) -> Option<FaultCode>
     if is_broken { Some(code) } else { None }
 }
 
-/// Adds the faults of a row by its rules, in their order. After want of memory the first of them may be there.
+/// Adds the faults of a row by its rules, in their order. After want of memory the first of them
+/// may be there.
 pub fn add_faults(
     faults: &mut Listed<Fault>,
     file: InputFile,
@@ -51,8 +52,8 @@ pub fn refusal_fault(file: InputFile, refusal: TableRefusal) -> Option<Fault>
     Some(Fault { file, row, code })
 }
 
-/// Adds a fault for each needed column that the table lacks, in their order. After want of memory the first of them may
-/// be there.
+/// Adds a fault for each needed column that the table lacks, in their order. After want of memory
+/// the first of them may be there.
 pub fn add_missing_columns(
     faults: &mut Listed<Fault>,
     file: InputFile,
@@ -61,7 +62,8 @@ pub fn add_missing_columns(
 ) -> Result<(), NoMemory>
     requires { IsTrue (list_all (λ name. is_given name.now) needed.now) }
     ensures { (schema : Schema) → map (λ name. name.now) needed.now ≡ map codes schema.needed
-        → OnOk result (faults.new ≡ faults.old ++ missing_faults file (missing_columns schema (header_of table.now))) }
+        → OnOk result (faults.new
+        ≡ faults.old ++ missing_faults file (missing_columns schema (header_of table.now))) }
 {
     for name in needed {
         if table.column(name).is_none() {

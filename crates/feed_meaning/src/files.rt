@@ -6,7 +6,8 @@ ghost use Rattle.feed_meaning.specs.Folder;
 
 use flex_model::{FaultCode, InputFile};
 
-/// A file's name in its folder, as printed faults have it too. The query file has any name: it is printed as `queries`.
+/// A file's name in its folder, as printed faults have it too. The query file has any name: it is
+/// printed as `queries`.
 pub fn file_name(file: InputFile) -> &'static str
     ensures { result.now ≡ Files.file_name file }
 {

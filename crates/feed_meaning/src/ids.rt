@@ -41,10 +41,11 @@ impl<'a> Ids<'a> {
         }
     }
 
-    /// Notes a text, which is an id unless it is empty, and says whether that id was met before. Once 2^32 - 1 ids
-    /// are kept there is no memory for more.
+    /// Notes a text, which is an id unless it is empty, and says whether that id was met before.
+    /// Once 2^32 - 1 ids are kept there is no memory for more.
     pub fn note(&mut self, text: &'a str) -> Result<bool, NoMemory>
-        ensures repeated { IfOk result (λ is_repeated. is_repeated ≡ (is_given text.now && list_any (bytes_eq text.now) self.old)) }
+        ensures repeated { IfOk result (λ is_repeated.
+            is_repeated ≡ (is_given text.now && list_any (bytes_eq text.now) self.old)) }
         ensures noted { OnOk result (self.new ≡ noted self.old text.now) }
         ensures err { OnErr result (self.new ≡ self.old) }
     {

@@ -1,8 +1,9 @@
-// Laws of the definitions alone: what is accepted is sound. Each function has an empty body, and its contract is the law.
+// Laws of the definitions alone: what is accepted is sound. Each function has an empty body, and
+// its contract is the law.
 
 ghost use Rattle.feed_meaning.specs.Soundness.{AcceptedFeedsAreSound, AcceptedQueriesAreSound, AcceptedTimesAreSound, WalkedFeaturesAreSound};
 
-/// A feed folder without faults holds a sound feed, if the reader of its zones gives sound features.
+/// A feed folder without faults holds a sound feed, if its zones are read as sound features.
 pub fn accepted_feeds_are_sound()
     ensures { AcceptedFeedsAreSound }
 {}

@@ -1,5 +1,6 @@
-//! What the bytes of a feed folder, a times folder and a query file mean: their fault lists, and the feed, the times
-//! and the queries that they hold. Definitions for the contracts of readers, and what readers share.
+//! What the bytes of a feed folder, a times folder and a query file mean: their fault lists, and
+//! the feed, the times and the queries that they hold. Definitions for the contracts of readers,
+//! and what readers share.
 #![tactic(auto)]
 
 mod columns;
@@ -20,6 +21,3 @@ pub use laws::{
     walked_features_are_sound,
 };
 pub use words::{is_bad, is_empty, is_given, is_later, is_text};
-
-#[cfg(test)]
-mod tests;

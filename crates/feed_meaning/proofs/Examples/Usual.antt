@@ -38,7 +38,7 @@ usual LocationGroups = marked "location_group_id,location_group_name\r\nG,Dale\r
 usual LocationGroupStops = marked "location_group_id,stop_id\r\nG,N\r\nG,M\r\nG,N\r\n"
 usual BookingRules = marked "booking_rule_id,booking_type,prior_notice_duration_min,prior_notice_duration_max,message,phone_number,info_url\r\nB,1,30,60,Call us,112,http://localhost/\r\n"
 usual Transfers = marked "from_stop_id,to_stop_id,transfer_type,min_transfer_time,from_trip_id\r\nN,M,3,,\r\nH,M,2,60,\r\nM,N,2,,\r\nM,N,1,,F\r\n"
-usual Frequencies = marked "trip_id,start_time,end_time,headway_secs,exact_times\r\nF,08:00:00,09:00:00,600,1\r\n"
+usual Frequencies = marked "trip_id,start_time,end_time,headway_secs,exact_times\r\nF,10:00:00,11:00:00,1200,\r\nF,08:00:00,09:00:00,600,1\r\n"
 usual file = Absent
 
 accepted : feed_faults geo usual ≡ []
@@ -63,6 +63,10 @@ value : feed_of geo usual ≡ record {
         id = codes "F";
         service = 0;
         frequent = true;
+        repeats =
+            (record { first = 36000; end = 39600; headway = 1200 })
+            ∷ (record { first = 28800; end = 32400; headway = 600 })
+            ∷ [];
         rows =
             (record { sequence = 1; «spot» = spot.Group 0; timing = timing.Window 28800 36000; pickup = Book (Some 0); drop_off = No })
             ∷ (record { sequence = 2; «spot» = spot.Group 0; timing = timing.Window 28800 36000; pickup = No; drop_off = Book (Some 0) })
