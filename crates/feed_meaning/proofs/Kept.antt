@@ -15,7 +15,7 @@ use Rattle.flex_model.specs.declared.fault.RawFile.{RawFile}
 use Rattle.flex_model.specs.declared.fault.RawFile.TheVariants.{Absent, TooLarge, Bytes}
 use Rattle.feed_tables.specs.Records.{header_of, numbered_from, rows_of, table_records}
 use Rattle.feed_tables.specs.Refusals.{first_refusal, first_refusal_from, has_duplicate, is_given, refusal_of}
-use Rattle.feed_tables.specs.declared.refusal.TheConstants.{MAX_ROWS}
+use Rattle.flex_model.specs.declared.limits.TheConstants.{MOST_RECORDS}
 use Rattle.feed_tables.specs.declared.refusal.TableRefusal.{TableRefusal}
 use Rattle.feed_tables.specs.declared.refusal.TableRefusal.TheVariants as refusal
 use Rattle.feed_meaning.specs.Folder.{Contents, Folder, bytes_of, counts_as_present, entries, fetched_faults, file_faults, has_no_record, is_needed, may_be_blank}
@@ -101,7 +101,7 @@ pub refusal-not : (columns place : ℕ) (fields : List (List ℕ)) (r : TableRef
     → (refusal.DuplicateColumn ≡ r → ⊥) → (refusal.RowTooLong (place + 1) ≡ r → ⊥) → refusal_of columns place fields ≡ Some r → ⊥
 unfolding refusal_of
 refusal-not columns place fields r hu hv hw hx e =
-    refusal-cases (nat_lt MAX_ROWS place) (not (list_all is_utf8 fields)) ((place == 0) && has_duplicate (filter is_given fields)) (list_any is_given (drop columns fields))
+    refusal-cases (nat_lt MOST_RECORDS place) (not (list_all is_utf8 fields)) ((place == 0) && has_duplicate (filter is_given fields)) (list_any is_given (drop columns fields))
     refusal.TooManyRows (refusal.NotUtf8 (place + 1)) refusal.DuplicateColumn (refusal.RowTooLong (place + 1)) r hu hv hw hx e
 
 -- none of them is want of memory
@@ -131,7 +131,7 @@ first-test : {X : Type 0} (b : Bool) (x : X) (o : Option X) → (if b then Some 
 first-test true x o e = cc
 first-test false x o e = refl
 
-place-few : (columns place : ℕ) (fields : List (List ℕ)) → refusal_of columns place fields ≡ None → place ≤ MAX_ROWS
+place-few : (columns place : ℕ) (fields : List (List ℕ)) → refusal_of columns place fields ≡ None → place ≤ MOST_RECORDS
 unfolding refusal_of
 place-few columns place fields e =
     let later : Option TableRefusal =
@@ -139,9 +139,9 @@ place-few columns place fields e =
     else if (place == 0) && has_duplicate (filter is_given fields) then Some refusal.DuplicateColumn
     else if list_any is_given (drop columns fields) then Some (refusal.RowTooLong (place + 1))
     else None in
-    ltb-false MAX_ROWS place (first-test (nat_lt MAX_ROWS place) refusal.TooManyRows later e)
+    ltb-false MOST_RECORDS place (first-test (nat_lt MOST_RECORDS place) refusal.TooManyRows later e)
 
-places-few : (columns place : ℕ) (records : List (List (List ℕ))) → first_refusal_from columns place records ≡ None → place ≤ MAX_ROWS + 1 → place + length records ≤ MAX_ROWS + 1
+places-few : (columns place : ℕ) (records : List (List (List ℕ))) → first_refusal_from columns place records ≡ None → place ≤ MOST_RECORDS + 1 → place + length records ≤ MOST_RECORDS + 1
 unfolding first_refusal_from
 places-few columns place [] e low = omega (arith, low)
 places-few columns place (fields ∷ rest) e low =
@@ -156,7 +156,7 @@ length-numbered n [] = refl
 length-numbered n (r ∷ rows) = ap suc (length-numbered (n + 1) rows)
 
 -- a table that isn't refused has few records
-pub few-entries : (records : List (List (List ℕ))) → first_refusal records ≡ None → length (entries_of records) ≤ MAX_ROWS
+pub few-entries : (records : List (List (List ℕ))) → first_refusal records ≡ None → length (entries_of records) ≤ MOST_RECORDS
 few-entries [] e = cc
 few-entries (header ∷ rows) e =
     let all = places-few (length header) 0 (header ∷ rows) e (omega arith) in
@@ -169,7 +169,7 @@ few-entries (header ∷ rows) e =
 -- what an accepted table gives: each record keeps its rules, and there are few
 pub record IsKeptTable (schema : Schema) (es : List Entry) : Type 0 where
   pub rules : ObeysRules schema.rules (map (λ e. e.values) es)
-  pub few : length es ≤ MAX_ROWS
+  pub few : length es ≤ MOST_RECORDS
 
 no-entries : (schema : Schema) → IsKeptTable schema []
 no-entries schema = record { rules = record { at = λ i d low. absurd (omega arith) }; few = omega arith }

@@ -4,7 +4,7 @@ use Rattle.std.proofs.lemmas.List.{length-map}
 use Rattle.flex_model.specs.declared.fault.Fault.{Fault}
 use Rattle.flex_model.specs.declared.fault.InputFile.{InputFile}
 use Rattle.flex_model.specs.declared.fault.InputFile.TheVariants.{Stops, Trips, StopTimes, Calendar, CalendarDates, LocationGroups, BookingRules, Transfers, Frequencies}
-use Rattle.feed_tables.specs.declared.refusal.TheConstants.{MAX_ROWS}
+use Rattle.flex_model.specs.declared.limits.TheConstants.{MOST_RECORDS}
 use Rattle.feed_meaning.specs.FeedFaults.{Geo, booking_rules_schema, calendar_dates_schema, calendar_schema, feed_contents, feed_entries, feed_faults, feed_files, feed_level_one, feed_level_two, first_list, frequencies_schema, groups_schema, link_faults, links_of, stop_times_schema, stops_schema, tables, transfers_schema, trips_schema}
 use Rattle.feed_meaning.specs.FeedLinks.{Tables}
 use Rattle.feed_meaning.specs.Folder.{Folder, entries, file_faults}
@@ -15,7 +15,7 @@ use Rattle.feed_meaning.proofs.Kept.{AreKept, IsKeptTable, ObeysRules, file_keep
 -- the records of a file keep its rules by themselves and beside the other files, and there are few
 pub record KeepsRules (rules : Rules) (tables : Tables) (file : InputFile) : Type 0 where
   pub alone : ObeysRules rules (tables file)
-  pub few : length (tables file) ≤ MAX_ROWS
+  pub few : length (tables file) ≤ MOST_RECORDS
   pub linked : All (λ r. AreKept (links_of file tables r)) (tables file)
 
 pub record KeepsFeedRules (tables : Tables) : Type 0 where

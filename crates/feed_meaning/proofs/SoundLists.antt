@@ -16,7 +16,7 @@ use Rattle.flex_model.specs.SoundFeed.{IsNamed, IsSoundGroup, IsSoundPolygon, Is
 use Rattle.flex_model.specs.SoundTimes.{AreIds, IsOnGlobe}
 use Rattle.flex_model.specs.Zone.{is_in_zone}
 use Rattle.feed_tables.specs.Refusals.{is_given}
-use Rattle.feed_tables.specs.declared.refusal.TheConstants.{MAX_ROWS}
+use Rattle.flex_model.specs.declared.limits.TheConstants.{MOST_RECORDS}
 use Rattle.feed_meaning.specs.FeedFaults.{Feature}
 use Rattle.feed_meaning.specs.FeedLinks.{Tables, is_in, is_unknown, is_unknown_service}
 use Rattle.feed_meaning.specs.FeedRules.{booking_rules, group_rules, stop_rules, trip_rules}
@@ -33,7 +33,7 @@ use Prim.Native.String.{String}
 
 -- items that are made of records are named as those
 pub named : {X : Type 0} (column : String) (of : Values → X) (id_of : X → List ℕ) (rs : List Values) → ((r : Values) → id_of (of r) ≡ r column)
-    → length rs ≤ MAX_ROWS → IdsAreKept column rs → IsNamed id_of (map of rs)
+    → length rs ≤ MOST_RECORDS → IdsAreKept column rs → IsNamed id_of (map of rs)
 named column of id_of rs same few kept = record {
   few = omega (arith, few, length-map rs of);
   ids = subst AreIds (sym (map-map id_of of rs ∙ agree rs)) (kept_ids column rs kept);

@@ -10,6 +10,7 @@ ghost use Rattle.feed_meaning.specs.Tables as Lists;
 ghost use Rattle.feed_meaning.specs.Tables.{Schema, faults_at, missing_columns, missing_faults};
 
 use feed_tables::{Table, TableRefusal};
+use flex_model::limits::MOST_RECORDS;
 use flex_model::{Fault, FaultCode, InputFile, Listed, NoMemory};
 
 /// A rule at a record: its fault, where it is broken.
@@ -46,7 +47,7 @@ pub fn refusal_fault(file: InputFile, refusal: TableRefusal) -> Option<Fault>
         TableRefusal::NoHeader => (0, FaultCode::NoHeader),
         TableRefusal::DuplicateColumn => (1, FaultCode::DuplicateColumn),
         TableRefusal::RowTooLong { row } => (row, FaultCode::RowTooLong),
-        TableRefusal::TooManyRows => (4_000_002, FaultCode::TooManyRows),
+        TableRefusal::TooManyRows => (MOST_RECORDS + 2, FaultCode::TooManyRows),
         TableRefusal::NoMemory => return None,
     };
     Some(Fault { file, row, code })

@@ -4,6 +4,7 @@ ghost use Rattle.std.specs.Prelude.{◌≡◌};
 ghost use Rattle.feed_meaning.specs.Files;
 ghost use Rattle.feed_meaning.specs.Folder;
 
+use flex_model::limits::{MOST_FILE_BYTES, MOST_LARGE_TABLE_BYTES, MOST_ZONE_BYTES};
 use flex_model::{FaultCode, InputFile};
 
 /// A file's name in its folder, as printed faults have it too. The query file has any name: it is
@@ -39,9 +40,9 @@ pub fn byte_limit(file: InputFile) -> u64
     ensures { result ≡ Files.byte_limit file }
 {
     match file {
-        InputFile::StopTimes | InputFile::Direct => 268_435_456,
-        InputFile::ZoneText | InputFile::ZoneTzif => 1_048_576,
-        _ => 67_108_864,
+        InputFile::StopTimes | InputFile::Direct => MOST_LARGE_TABLE_BYTES,
+        InputFile::ZoneText | InputFile::ZoneTzif => MOST_ZONE_BYTES,
+        _ => MOST_FILE_BYTES,
     }
 }
 

@@ -9,7 +9,7 @@ use Rattle.std.proofs.lemmas.List.Sums.{position_or_len_is}
 use Rattle.feed_tables.specs.Parts.{EndAt, parts}
 use Rattle.feed_tables.specs.Records.{numbered_from}
 use Rattle.feed_tables.specs.Refusals.{first_refusal_from, has_duplicate, is_given, refusal_of}
-use Rattle.feed_tables.specs.declared.refusal.TheConstants.{MAX_ROWS}
+use Rattle.flex_model.specs.declared.limits.TheConstants.{MOST_RECORDS}
 use Rattle.feed_tables.specs.declared.refusal.TableRefusal.{TableRefusal}
 use Rattle.feed_tables.specs.declared.refusal.TableRefusal.TheVariants as refusal
 
@@ -179,10 +179,10 @@ header-field ends pool some cut =
 
 -- ---- refusals
 
-pub refusal-text : (columns index : ℕ) (fields : List (List ℕ)) → index ≤ MAX_ROWS → list_all is_utf8 fields ≡ false
+pub refusal-text : (columns index : ℕ) (fields : List (List ℕ)) → index ≤ MOST_RECORDS → list_all is_utf8 fields ≡ false
     → refusal_of columns index fields ≡ Some (refusal.NotUtf8 (index + 1))
 unfolding refusal_of
-refusal-text columns index fields high text = rw (le-ltb MAX_ROWS index high, text) refl
+refusal-text columns index fields high text = rw (le-ltb MOST_RECORDS index high, text) refl
 
 pub refusal-duplicate : (columns : ℕ) (fields : List (List ℕ)) → list_all is_utf8 fields ≡ true → has_duplicate (filter is_given fields) ≡ true
     → refusal_of columns 0 fields ≡ Some refusal.DuplicateColumn
@@ -194,19 +194,19 @@ pub refusal-header : (columns : ℕ) (fields : List (List ℕ)) → columns ≡ 
 unfolding refusal_of
 refusal-header columns fields size text once = rw (text, once, drop_all columns fields (omega (arith, size))) refl
 
-pub refusal-long : (columns index : ℕ) (fields : List (List ℕ)) → 0 < index → index ≤ MAX_ROWS → list_all is_utf8 fields ≡ true → list_any is_given (drop columns fields) ≡ true
+pub refusal-long : (columns index : ℕ) (fields : List (List ℕ)) → 0 < index → index ≤ MOST_RECORDS → list_all is_utf8 fields ≡ true → list_any is_given (drop columns fields) ≡ true
     → refusal_of columns index fields ≡ Some (refusal.RowTooLong (index + 1))
 unfolding refusal_of
-refusal-long columns index fields low high text given = rw (le-ltb MAX_ROWS index high, text, ne_eqb index 0 (λ e. absurd (omega (arith, e, low))), given) refl
+refusal-long columns index fields low high text given = rw (le-ltb MOST_RECORDS index high, text, ne_eqb index 0 (λ e. absurd (omega (arith, e, low))), given) refl
 
-pub refusal-none : (columns index : ℕ) (fields : List (List ℕ)) → 0 < index → index ≤ MAX_ROWS → list_all is_utf8 fields ≡ true → list_any is_given (drop columns fields) ≡ false
+pub refusal-none : (columns index : ℕ) (fields : List (List ℕ)) → 0 < index → index ≤ MOST_RECORDS → list_all is_utf8 fields ≡ true → list_any is_given (drop columns fields) ≡ false
     → refusal_of columns index fields ≡ None
 unfolding refusal_of
-refusal-none columns index fields low high text given = rw (le-ltb MAX_ROWS index high, text, ne_eqb index 0 (λ e. absurd (omega (arith, e, low))), given) refl
+refusal-none columns index fields low high text given = rw (le-ltb MOST_RECORDS index high, text, ne_eqb index 0 (λ e. absurd (omega (arith, e, low))), given) refl
 
-pub refusal-many : (columns index : ℕ) (fields : List (List ℕ)) → MAX_ROWS < index → refusal_of columns index fields ≡ Some refusal.TooManyRows
+pub refusal-many : (columns index : ℕ) (fields : List (List ℕ)) → MOST_RECORDS < index → refusal_of columns index fields ≡ Some refusal.TooManyRows
 unfolding refusal_of
-refusal-many columns index fields high = rw (lt-ltb MAX_ROWS index high) refl
+refusal-many columns index fields high = rw (lt-ltb MOST_RECORDS index high) refl
 
 -- records so far that break no rule, and the next one
 pub refusal-next : (columns index : ℕ) (fields : List (List ℕ)) (rest : List (List (List ℕ))) → refusal_of columns index fields ≡ None
@@ -224,7 +224,7 @@ unfolding first_refusal_from
 refusal-end columns index = refl
 
 -- a record with a field that isn't UTF-8 is refused for that
-pub text-refused : (columns index : ℕ) (fields : List (List ℕ)) (e : TableRefusal) → index ≤ MAX_ROWS
+pub text-refused : (columns index : ℕ) (fields : List (List ℕ)) (e : TableRefusal) → index ≤ MOST_RECORDS
     → (e ≡ refusal.NoMemory) ⊎ ((e ≡ refusal.NotUtf8 (index + 1)) × (list_all is_utf8 fields ≡ false))
     → (e ≡ refusal.NoMemory) ⊎ (refusal_of columns index fields ≡ Some e)
 text-refused columns index fields e high (inl none) = inl none

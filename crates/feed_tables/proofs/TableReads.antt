@@ -10,7 +10,7 @@ use Rattle.feed_tables.specs.Fields.{trimmed}
 use Rattle.feed_tables.specs.Parts.{EndAt, parts}
 use Rattle.feed_tables.specs.Records.{csv_records, table_records}
 use Rattle.feed_tables.specs.Refusals.{first_refusal, first_refusal_from, refusal_of}
-use Rattle.feed_tables.specs.declared.refusal.TheConstants.{MAX_ROWS}
+use Rattle.flex_model.specs.declared.limits.TheConstants.{MOST_RECORDS}
 use Rattle.feed_tables.specs.declared.refusal.TableRefusal.{TableRefusal}
 use Rattle.feed_tables.specs.declared.refusal.TableRefusal.TheVariants as refusal
 use Rattle.feed_tables.proofs.Bounds.{fields-trimmed-size, records-fit, total, total-cons}
@@ -77,7 +77,7 @@ header-text-refused bytes text left e at s (inl none) = inl none
 header-text-refused bytes text left e at s (inr (is, (fields, rest, got, bad))) =
     header-refused bytes rest fields e (starts bytes text left rest fields at s got) (text-refused (length fields) 0 (map trimmed fields) e (lit≤ tt) (inr (is, bad)))
 
-pub row-text-refused : (all left : List (List (List ℕ))) (columns index : ℕ) (e : TableRefusal) → index ≤ MAX_ROWS → first_refusal all ≡ first_refusal_from columns index (map (map trimmed) left)
+pub row-text-refused : (all left : List (List (List ℕ))) (columns index : ℕ) (e : TableRefusal) → index ≤ MOST_RECORDS → first_refusal all ≡ first_refusal_from columns index (map (map trimmed) left)
     → (e ≡ refusal.NoMemory) ⊎ IsNotUtf8 left (index + 1) e → (e ≡ refusal.NoMemory) ⊎ (first_refusal all ≡ Some e)
 row-text-refused all left columns index e high f (inl none) = inl none
 row-text-refused all left columns index e high f (inr (is, (fields, rest, got, bad))) =

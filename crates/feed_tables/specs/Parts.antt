@@ -2,7 +2,7 @@
 use Rattle.std.specs.Prelude.{ℕ, ◌+◌, ◌-◌, ◌^◌, ◌≤◌, ◌<◌, ◌≡◌, List, [], ◌∷◌, IsUtf8}
 use Rattle.std.specs.Prelude.{take, drop, get_or, length}
 use Rattle.std.specs.Str.{IsCharBoundary}
-use Rattle.feed_tables.specs.declared.refusal.TheConstants.{MAX_ROWS}
+use Rattle.flex_model.specs.declared.limits.TheConstants.{MOST_RECORDS}
 
 -- the parts of a list that end at these indices, after a start
 unfoldable pub parts : {X : Type 0} → ℕ → List ℕ → List X → List (List X)
@@ -24,6 +24,6 @@ pub record IsCut (ends text : List ℕ) : Type 0 where
 -- bits, and no more rows than the limit
 pub record IsTable (ends : List ℕ) (fields : List (List ℕ)) : Type 0 where
   pub some : 0 < length ends
-  pub few : length ends ≤ MAX_ROWS + 1
+  pub few : length ends ≤ MOST_RECORDS + 1
   pub cut : EndAt 0 ends (length fields)
   pub columns : get_or ends 0 0 ≤ 2 ^ 32

@@ -6,7 +6,7 @@ use Rattle.std.specs.List.{list_all, list_any}
 use Rattle.std.specs.Option.{option_or}
 use Rattle.std.specs.Str.{bytes_eq, is_utf8}
 use Rattle.feed_tables.specs.Fields.{all_trimmed}
-use Rattle.feed_tables.specs.declared.refusal.TheConstants.{MAX_ROWS}
+use Rattle.flex_model.specs.declared.limits.TheConstants.{MOST_RECORDS}
 use Rattle.feed_tables.specs.declared.refusal.TableRefusal.{TableRefusal}
 use Rattle.feed_tables.specs.declared.refusal.TableRefusal.TheVariants as refusal
 
@@ -25,7 +25,7 @@ has_duplicate (x ∷ xs) = list_any (bytes_eq x) xs || has_duplicate xs
 -- rules and their order are this project's own
 unfoldable pub refusal_of : ℕ → ℕ → List (List ℕ) → Option TableRefusal
 refusal_of columns index fields =
-    if nat_lt MAX_ROWS index then Some refusal.TooManyRows
+    if nat_lt MOST_RECORDS index then Some refusal.TooManyRows
     else if not (list_all is_utf8 fields) then Some (refusal.NotUtf8 (index + 1))
     else if (index == 0) && has_duplicate (filter is_given fields) then Some refusal.DuplicateColumn
     else if list_any is_given (drop columns fields) then Some (refusal.RowTooLong (index + 1))

@@ -8,6 +8,6 @@ mod refusal;
 mod rows;
 mod table;
 
-pub use refusal::{MAX_ROWS, TableRefusal};
+pub use refusal::TableRefusal;
 pub use rows::{RowView, Rows};
 pub use table::Table;

@@ -15,10 +15,11 @@ ghost use Rattle.feed_tables.specs.Refusals.{is_given, refusal_of};
 use crate::fields::{trim_blanks, without_mark};
 use crate::pool::Pool;
 use crate::records::RecordReader;
-use crate::refusal::{MAX_ROWS, TableRefusal};
+use crate::refusal::TableRefusal;
 use crate::rows::Rows;
 use csv::StringRecord;
 use flex_model::NoMemory;
+use flex_model::limits::MOST_RECORDS;
 use std::alloc::Global;
 use std::collections::BTreeMap;
 use std::marker::Model;
@@ -119,7 +120,7 @@ fn push_row(
     index: u64,
 ) -> Result<(), TableRefusal>
     requires low { 0 < index }
-    requires high { index ≤ MAX_ROWS }
+    requires high { index ≤ MOST_RECORDS }
     requires cut { EndAt 0 ends.old.items (length pool.old) }
     requires room { sum_by length pool.old + sum_by length (fields_of raw.now) < 2 ^ 32 }
     ensures fields { OnOk result (pool.new ≡ pool.old ++ all_trimmed (fields_of raw.now)) }
@@ -164,7 +165,7 @@ impl Table {
         let mut pool = Pool::with_room(alloc, bytes.len())?;
         let mut ends = Vec::new(alloc);
         push_header(alloc, &mut pool, &mut ends, &raw)?;
-        for index in 1..MAX_ROWS + 1 {
+        for index in 1..MOST_RECORDS + 1 {
             if !left.next(&mut raw, index + 1)? {
                 return Ok(Table { pool, ends });
             }
@@ -192,7 +193,7 @@ impl Table {
     /// The records after the header, in order, which are no more than the limit.
     pub fn rows(&self) -> Rows<'_>
         ensures rows { result ≡ rows_of self.now }
-        ensures few { length result ≤ MAX_ROWS }
+        ensures few { length result ≤ MOST_RECORDS }
     {
         let _ends = &self.ends;
         Rows::new(self)

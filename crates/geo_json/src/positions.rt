@@ -11,14 +11,9 @@ use crate::members::fault_at;
 use crate::refusal::WalkRefusal;
 use crate::values::{digits, is_array, is_number, items};
 use field_text::read_degree;
+use flex_model::limits::{GREATEST_LATITUDE, GREATEST_LONGITUDE};
 use flex_model::{FaultCode, Position};
 use json_text::JsonText;
-
-/// 180 degrees, in 10^-15 degree.
-const MOST_LONGITUDE: i64 = 180_000_000_000_000_000;
-
-/// 90 degrees, in 10^-15 degree.
-const MOST_LATITUDE: i64 = 90_000_000_000_000_000;
 
 /// The first two items of an array, where it has two.
 fn first_two(json: &JsonText<'_>, array: u32) -> Option<(u32, u32)>
@@ -61,14 +56,14 @@ fn coordinates(json: &JsonText<'_>, position: u32) -> Option<(u32, u32)>
 fn longitude_of(text: &str) -> Option<i64>
     ensures { result ≡ degree 180 text.now }
 {
-    read_degree(text, MOST_LONGITUDE).ok()
+    read_degree(text, GREATEST_LONGITUDE).ok()
 }
 
 /// A latitude, in units of 10^-15 degree.
 fn latitude_of(text: &str) -> Option<i64>
     ensures { result ≡ degree 90 text.now }
 {
-    read_degree(text, MOST_LATITUDE).ok()
+    read_degree(text, GREATEST_LATITUDE).ok()
 }
 
 /// The degree that a number tells, or the fault of a number that tells none.

@@ -13,10 +13,8 @@ use crate::moves::{Move, Settling, move_of, settling_of};
 use crate::refusal::ScanRefusal;
 use crate::row::Row;
 use crate::state::{Bracket, Role, State};
+use flex_model::limits::MOST_OPEN_LEVELS;
 use std::alloc::Global;
-
-/// How many arrays and objects may be open at once.
-const GREATEST_DEPTH: usize = 64;
 
 /// An array or an object that is open, and the number of its node.
 #[derive(Clone, Copy)]
@@ -150,7 +148,7 @@ impl Scanner {
         ensures deep { IfErr result
             (IsRefused at (state_of state (stack_in self.old.frames.items))) }
     {
-        if levels(state, self.frames.len()) > GREATEST_DEPTH {
+        if levels(state, self.frames.len()) > MOST_OPEN_LEVELS {
             return Err(ScanRefusal::Depth { at: u64::from(at) });
         }
         self.state = state;
