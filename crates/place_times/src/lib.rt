@@ -15,6 +15,3 @@ mod span_records;
 mod spans;
 
 pub use folder::{LoadedTimes, load_times};
-
-#[cfg(test)]
-mod tests;

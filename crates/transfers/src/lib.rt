@@ -6,6 +6,3 @@ mod walks;
 
 pub use changes::change;
 pub use walks::{access, egress};
-
-#[cfg(test)]
-mod tests;

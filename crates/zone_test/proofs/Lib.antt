@@ -1,2 +1,3 @@
 pub mod RingEdges
+pub mod ServedPlaces
 pub mod ServedStops

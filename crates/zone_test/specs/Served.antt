@@ -8,4 +8,5 @@ use Rattle.flex_model.specs.Zone.{is_in_zone}
 -- the stop of this number can be boarded and lies in the zone of these polygons
 abbrev pub IsServed : List Polygon → List Stop → ℕ → Type 0
 IsServed polygons stops s =
-    (stop : Stop) × (slice_get stops s ≡ Some stop) × IsTrue stop.boards × IsTrue (is_in_zone polygons stop.at)
+    (stop : Stop) × (slice_get stops s ≡ Some stop) × IsTrue stop.boards
+    × IsTrue (is_in_zone polygons stop.at)

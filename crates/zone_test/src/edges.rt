@@ -41,14 +41,16 @@ pub fn is_crossed(point: &Position, from: &Position, to: &Position) -> bool
 
 // Whether the edge goes north past the latitude, east of the point.
 fn is_crossed_northwards(from: &i64, to: &i64, lat: &i64, side: &i128) -> bool
-    ensures { result ≡ (int_le from.now lat.now && (int_lt lat.now to.now && int_lt (pos 0) side.now)) }
+    ensures { result ≡ (int_le from.now lat.now
+        && (int_lt lat.now to.now && int_lt (pos 0) side.now)) }
 {
     *from <= *lat && (*lat < *to && 0 < *side)
 }
 
 // Whether the edge goes south past the latitude, east of the point.
 fn is_crossed_southwards(from: &i64, to: &i64, lat: &i64, side: &i128) -> bool
-    ensures { result ≡ (int_lt lat.now from.now && (int_le to.now lat.now && int_lt side.now (pos 0))) }
+    ensures { result ≡ (int_lt lat.now from.now
+        && (int_le to.now lat.now && int_lt side.now (pos 0))) }
 {
     *lat < *from && (*to <= *lat && *side < 0)
 }

@@ -30,7 +30,8 @@ pub fn contains(polygons: &Listed<Polygon>, point: Position) -> bool
 fn is_in_polygon(polygon: &Polygon, point: &Position) -> bool
     requires polygon { IsSoundPolygon polygon.now }
     requires point { IsOnGlobe point.now }
-    ensures { result ≡ (spec.is_on_boundary point.now polygon.now.rings || spec.is_inside point.now polygon.now.rings) }
+    ensures { result ≡ (spec.is_on_boundary point.now polygon.now.rings
+        || spec.is_inside point.now polygon.now.rings) }
 {
     let rings = polygon.rings.as_slice();
     is_on_boundary(rings, point) || is_inside(rings, point)
@@ -66,7 +67,8 @@ fn is_inside(rings: &[Ring], point: &Position) -> bool
 fn is_outside_all(holes: &[Ring], point: &Position) -> bool
     requires holes { All (λ ring. All IsOnGlobe ring.corners) holes.now }
     requires point { IsOnGlobe point.now }
-    ensures { result ≡ list_all (λ hole. not (spec.is_odd (spec.crossings point.now hole))) holes.now }
+    ensures { result ≡ list_all (λ hole. not
+        (spec.is_odd (spec.crossings point.now hole))) holes.now }
 {
     for hole in holes {
         if is_surrounded(hole, point) {
@@ -85,7 +87,8 @@ pub fn zone_stops(
     requires polygons { All IsSoundPolygon polygons.now }
     requires on_globe { All (λ stop. IsOnGlobe stop.at) stops.now }
     requires few { length stops.now < 2 ^ 32 }
-    ensures { IfOk result (λ numbers. AreRising numbers × ((s : ℕ) → Contains numbers s ↔ IsServed polygons.now stops.now s)) }
+    ensures { IfOk result (λ numbers. AreRising numbers
+        × ((s : ℕ) → Contains numbers s ↔ IsServed polygons.now stops.now s)) }
 {
     let mut numbers = Listed::new(alloc);
     let stops = stops.as_slice();
