@@ -82,7 +82,7 @@ module _ (feed : Feed) (times : Times) (days : DayTable) (query : Query) (on : T
       let without : ride.start ≡ None = no_start p.trip ride.start never p.starts in
       let leaves : Leaves days ride (pos 0) p.boarding.timing = subst (λ start. Leaves days ride (shift p.trip start) p.boarding.timing) without p.leaves in
       let arrives : Arrives times days ride (pos 0) p.boarding.timing p.alighting.timing =
-              subst (λ start. Arrives times days ride (shift p.trip start) p.boarding.timing p.alighting.timing) without p.arrives in
+      subst (λ start. Arrives times days ride (shift p.trip start) p.boarding.timing p.alighting.timing) without p.arrives in
       record {
         trip = of_trip;
         day = of_day;

@@ -32,7 +32,7 @@ IsPlanReply files paths FeedFaulty pieces = LacksZones (feed_folder files paths)
     × AreFaultLines (faults_of_feed (feed_folder files paths)) pieces
 IsPlanReply files paths TimesFaulty pieces =
     IsFeedAccepted files paths × ((zone : Option (List ℤ)) × FindsZone files paths zone
-        × AreFaultLines (faults_of_times files paths zone) pieces)
+    × AreFaultLines (faults_of_times files paths zone) pieces)
 IsPlanReply files paths QueriesFaulty pieces =
     ((bases : List ℤ) × AreTimesAccepted files paths bases)
     × AreFaultLines (faults_of_queries files paths) pieces

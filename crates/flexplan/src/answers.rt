@@ -53,8 +53,7 @@ fn print_answer<O: Sink>(
     requires query { IsSoundQuery input.now.feed input.now.times query.now }
     requires transfers { query.now.transfers ≡ 0 }
     ensures printed { Gains (O.contents out.old) (O.contents out.new)
-        (Prints (IsAnswerText input.now.feed input.now.times input.now.zone) query.entry.now result)
-        }
+        (Prints (IsAnswerText input.now.feed input.now.times input.now.zone) query.entry.now result) }
     ensures counted { O.faults out.old ≤ O.faults out.new }
     ensures write_fault { IsErrOf result PutError.Failed
         → HasFailed (O.faults out.old) (O.faults out.new) }

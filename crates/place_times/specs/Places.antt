@@ -23,8 +23,12 @@ pub record ArePlaceIds (feed : Feed) (points : List Point) (ids : PlaceIds) : Ty
 -- a span by the texts of its record; it takes no time where the text has no number up to the greatest one
 abbrev pub span_by : Feed → List Point → ℕ → List ℕ → List ℕ → List ℕ → Span
 span_by feed points most from to seconds =
-    record { from = place_named feed points from; to = place_named feed points to; seconds =
-        unwrap_or (count most seconds) 0 }
+    record {
+      from = place_named feed points from;
+      to = place_named feed points to;
+      seconds =
+          unwrap_or (count most seconds) 0;
+    }
 
 abbrev pub read_span : Feed → List Point → ℕ → Values → Span
 read_span feed points most r = span_by feed points most (r "from_id") (r "to_id") (r "seconds")

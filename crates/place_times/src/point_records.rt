@@ -53,8 +53,11 @@ pub(crate) fn point_faults(alloc: Global, table: &Table) -> Result<Listed<Fault>
 // A point by the texts of its columns.
 fn point_of(alloc: Global, id: &str, lon: &str, lat: &str) -> Result<Point, NoMemory>
     ensures { IfOk result
-        (λ point. point ≡ record { id = id.now; at = record
-        { lon = coordinate 180 lon.now; lat = coordinate 90 lat.now } }) }
+        (λ point. point ≡ record {
+          id = id.now;
+          at = record
+              { lon = coordinate 180 lon.now; lat = coordinate 90 lat.now };
+        }) }
 {
     Ok(Point {
         id: text_of(alloc, id)?,
