@@ -6,4 +6,3 @@ pub mod SpanOrder
 pub mod AcceptedSpans
 pub mod LevelFacts
 pub mod LoadFacts
-pub mod SampleFeed

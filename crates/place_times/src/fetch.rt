@@ -1,6 +1,6 @@
 // The files of a times folder.
 
-ghost use Rattle.std.specs.Prelude.{◌≡◌, ◌≤◌, IfOk, IfSome, IsErrOf};
+ghost use Rattle.std.specs.Prelude.{◌≡◌, ◌≢◌, ◌≤◌, Err, IfOk, IfSome, IsErrOf};
 ghost use Rattle.flex_io.specs.Outside.{HasFailed};
 ghost use Rattle.flex_model.specs.declared.fault.InputFile.TheVariants as InputFiles;
 ghost use Rattle.flex_model.specs.declared.fault.RawFile.TheVariants as Raw;
@@ -38,6 +38,8 @@ fn fetch_tzif<F: Files>(
         × (F.faults files.new ≡ F.faults files.old) }
     ensures read_fault { IsErrOf result LoadError.ReadFault
         → HasFailed (F.faults files.old) (F.faults files.new) }
+    ensures answered { result ≢ Err LoadError.ReadFault
+        → F.faults files.new ≡ F.faults files.old }
 {
     match text {
         RawFile::Absent => fetch_input(alloc, files, folder, InputFile::ZoneTzif),
@@ -61,6 +63,8 @@ pub(crate) fn fetch_times<F: Files>(
         × (F.faults files.new ≡ F.faults files.old) }
     ensures read_fault { IsErrOf result LoadError.ReadFault
         → HasFailed (F.faults files.old) (F.faults files.new) }
+    ensures answered { result ≢ Err LoadError.ReadFault
+        → F.faults files.new ≡ F.faults files.old }
 {
     let zone_text = fetch_input(alloc, files, folder, InputFile::ZoneText)?;
     let zone_tzif = fetch_tzif(alloc, files, folder, &zone_text)?;

@@ -1,6 +1,6 @@
 // The times of a folder as it was fetched, with its zone.
 
-ghost use Rattle.std.specs.Prelude.{◌≡◌, ◌≤◌, IfOk, IfSome, IsErrOf, true};
+ghost use Rattle.std.specs.Prelude.{◌≡◌, ◌≢◌, ◌≤◌, Err, IfOk, IfSome, IsErrOf, true};
 ghost use Rattle.flex_io.specs.Outside.{HasFailed};
 ghost use Rattle.flex_model.specs.declared.feed.Feed as Feeds;
 ghost use Rattle.flex_model.specs.SoundFeed.{IsSoundFeed};
@@ -98,6 +98,8 @@ pub fn load_times<F: Files>(
         × (F.faults files.new ≡ F.faults files.old) }
     ensures read_fault { IsErrOf result LoadError.ReadFault
         → HasFailed (F.faults files.old) (F.faults files.new) }
+    ensures answered { result ≢ Err LoadError.ReadFault
+        → F.faults files.new ≡ F.faults files.old }
 {
     let found = fetch_times(alloc, files, folder)?;
     let times = read_files(alloc, feed, &found)?;
