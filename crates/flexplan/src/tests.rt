@@ -1,7 +1,9 @@
+ghost use Rattle.std.specs.Prelude.{None};
+
 use crate::run::run;
 use crate::status::Status;
 use feed_rules::{FeedBytes, RawFeed};
-use flex_io::{MemFiles, MemSink};
+use flex_io::{FetchError, Files, Got, MemFiles, MemSink};
 use flex_model::{InputFile, Listed, RawFile};
 use std::alloc::Global;
 use std::test::Fail;
@@ -120,6 +122,36 @@ fn each_query_is_answered(rt: HostRuntime) -> Result<(), Fail> {
     Ok(())
 }
 
+// There are no walks in what is planned for, so each counts 0.
+#[test]
+fn walking_is_told_where_it_is_asked_for(rt: HostRuntime) -> Result<(), Fail> {
+    let alloc = rt.alloc();
+    let queries = "query_id,walking,origin,destination,depart,now,transfers,horizon\n\
+         q1,1,M,N,2025-06-04T07:30:00Z,2025-06-03T12:00:00Z,0,60\n\
+         q2,0,M,N,2025-06-04T07:30:00Z,2025-06-03T12:00:00Z,0,60\n\
+         q3,,N,M,2025-06-04T07:30:00Z,2025-06-03T12:00:00Z,0,60\n\
+         q4,1,N,M,2025-06-04T07:30:00Z,2025-06-03T12:00:00Z,0,60\n";
+    let text = "query q1 1 walking\njourney never 2025-06-04T08:20:00Z 0 0\n\
+                ride T 20250604 1 2 M N 2025-06-04T08:00:00Z 2025-06-04T08:20:00Z\n\
+                query q2 1\njourney never 2025-06-04T08:20:00Z 0\n\
+                ride T 20250604 1 2 M N 2025-06-04T08:00:00Z 2025-06-04T08:20:00Z\n\
+                query q3 0\nquery q4 0 walking\n";
+    let ended = planned(alloc, &[("q", queries)])?;
+    assert_eq!(rt; ended.status, Status::Done);
+    assert_eq!(rt; ended.out.bytes(), text.as_bytes());
+    let ended = planned(
+        alloc,
+        &[(
+            "q",
+            "query_id,origin,destination,depart,now,transfers,horizon,walking\n\
+             q1,M,N,2025-06-04T07:30:00Z,2025-06-03T12:00:00Z,0,60,2\n",
+        )],
+    )?;
+    assert_eq!(rt; ended.status, Status::QueriesFaulty);
+    assert_eq!(rt; ended.out.bytes(), b"fault queries 2 BAD_ENUM\n".as_slice());
+    Ok(())
+}
+
 #[test]
 fn trips_of_other_days_count(rt: HostRuntime) -> Result<(), Fail> {
     let alloc = rt.alloc();
@@ -194,6 +226,10 @@ fn other_input_is_not_planned_for(rt: HostRuntime) -> Result<(), Fail> {
         (
             "a/stop_times.txt",
             "trip_id,stop_sequence,stop_id,start_pickup_drop_off_window,end_pickup_drop_off_window\nT,1,M,08:00:00,09:00:00\nT,2,N,08:00:00,09:00:00\n",
+        ),
+        (
+            "a/frequencies.txt",
+            "trip_id,start_time,end_time,headway_secs\nT,08:05:00,08:30:00,600\n",
         ),
         ("t/walks.txt", "from_id,to_id,seconds\nM,N,600\n"),
         (
@@ -448,6 +484,11 @@ fn failures_of_the_outside_are_told(rt: HostRuntime) -> Result<(), Fail> {
     files.fail_at(18)?;
     let ended = ran(alloc, &PLAN, &mut files, MemSink::new(alloc));
     assert_eq!(rt; ended.status, Status::ReadFault);
+    // There are 18 fetches: no 19th one comes.
+    let mut files = files_with(alloc, &[])?;
+    files.fail_at(19)?;
+    let ended = ran(alloc, &PLAN, &mut files, MemSink::new(alloc));
+    assert_eq!(rt; ended.status, Status::Done);
     let mut out = MemSink::new(alloc);
     out.fail_at(1, 5)?;
     let ended = ran(alloc, &PLAN, &mut files_with(alloc, &[])?, out);
@@ -455,6 +496,55 @@ fn failures_of_the_outside_are_told(rt: HostRuntime) -> Result<(), Fail> {
     assert_eq!(rt; ended.out.bytes(), b"query".as_slice());
     assert!(rt; ended.err.bytes().is_empty());
     Ok(())
+}
+
+// Each query has a put of its own.
+#[test]
+fn a_failing_put_leaves_the_texts_before_it(rt: HostRuntime) -> Result<(), Fail> {
+    let alloc = rt.alloc();
+    let queries = under(
+        alloc,
+        QUERY_HEADER,
+        "q1,M,N,2025-06-04T07:30:00Z,2025-06-03T12:00:00Z,0,60\n\
+         q2,M,N,2025-06-04T07:30:00Z,2025-06-03T12:00:00Z,0,60\n",
+    )?;
+    let mut out = MemSink::new(alloc);
+    out.fail_at(2, 0)?;
+    let mut files = files_with(alloc, &[("q", queries.as_str())])?;
+    let ended = ran(alloc, &PLAN, &mut files, out);
+    assert_eq!(rt; ended.status, Status::WriteFault);
+    assert_eq!(rt; ended.out.bytes(), ANSWER.as_bytes());
+    Ok(())
+}
+
+// Files for which memory is never enough.
+struct Full;
+
+impl Files for Full {
+    ghost told = { λ _. None };
+
+    ghost faults = { λ _. 0 };
+
+    fn fetch(
+        &mut self,
+        _alloc: Global,
+        _path: &str,
+        _limit: u64,
+        _into: &mut Vec<u8>,
+    ) -> Result<Got, FetchError> {
+        Err(FetchError::NoMemory)
+    }
+}
+
+#[test]
+fn want_of_memory_is_told(rt: HostRuntime) {
+    let alloc = rt.alloc();
+    let mut out = MemSink::new(alloc);
+    let mut err = MemSink::new(alloc);
+    let status = run(alloc, &PLAN, &mut Full, &mut out, &mut err);
+    assert_eq!(rt; status, Status::NoMemory);
+    assert!(rt; out.bytes().is_empty());
+    assert_eq!(rt; err.bytes(), b"flexplan: no memory\n".as_slice());
 }
 
 #[test]
