@@ -4,7 +4,7 @@ ghost use Rattle.std.specs.Prelude.{◌≡◌, List, IfOk, not, take};
 ghost use Rattle.std.specs.List.{list_any};
 ghost use Rattle.std.specs.Option.{option_to_list};
 ghost use Rattle.std.specs.Str.{bytes_eq};
-ghost use Rattle.flex_model.specs.declared.fault.InputFile.TheVariants as Files;
+ghost use Rattle.flex_model.specs.declared.fault.InputFile.TheVariants as InputFiles;
 ghost use Rattle.feed_meaning.specs.FeedRules;
 ghost use Rattle.feed_meaning.specs.Rules.{Values};
 ghost use Rattle.feed_meaning.specs.Tables.{entries_of, record_faults};
@@ -40,7 +40,7 @@ fn agency_rules(zone: &str, differs: bool) -> [Option<FaultCode>; 2]
 
 /// The faults of the records of agency.txt by themselves.
 pub(crate) fn agency_faults(alloc: Global, table: &Table) -> Result<Listed<Fault>, NoMemory>
-    ensures { IfOk result (λ faults. faults ≡ record_faults Files.Agency FeedRules.agency_rules
+    ensures { IfOk result (λ faults. faults ≡ record_faults InputFiles.Agency FeedRules.agency_rules
         (entries_of table.now)) }
 {
     let agency_timezone = table.column("agency_timezone");

@@ -1,12 +1,12 @@
 // The faults of the records of booking_rules.txt by themselves.
 
 ghost use Rattle.std.specs.Prelude.{◌≡◌, ◌++◌, ◌∷◌, ◌&&◌, ◌||◌, [], ℕ, if◌then◌else◌, List, Option, IfOk, OnOk, not};
-ghost use Rattle.flex_model.specs.declared.fault.InputFile.TheVariants as Files;
+ghost use Rattle.flex_model.specs.declared.fault.InputFile.TheVariants as InputFiles;
 ghost use Rattle.feed_tables.specs.Records.{header_of};
 ghost use Rattle.feed_tables.specs.Refusals;
 ghost use Rattle.field_text.specs.Grammars;
 ghost use Rattle.feed_meaning.specs.FeedRules;
-ghost use Rattle.feed_meaning.specs.Rules as Words;
+ghost use Rattle.feed_meaning.specs.Rules;
 ghost use Rattle.feed_meaning.specs.Rules.{Values, repeats_id};
 ghost use Rattle.feed_meaning.specs.Tables.{entries_of, faults_at, record_faults, values_of};
 ghost use Rattle.feed_rules.specs.BookingRules.{AreBookingColumns, IsReadBooking};
@@ -142,8 +142,8 @@ fn conditional<T: Copy>(
 // Whether a record may say from which day on one can book.
 fn may_start_on_day(b: &BookingRule<'_>) -> bool
     ensures { (r : Values) → IsReadBooking r b.now
-        → result ≡ not (Words.is_text (r "booking_type") "0"
-        || (Words.is_text (r "booking_type") "1" && Refusals.is_given
+        → result ≡ not (Rules.is_text (r "booking_type") "0"
+        || (Rules.is_text (r "booking_type") "1" && Refusals.is_given
         (r "prior_notice_duration_max"))) }
 {
     let is_shut = is_text(b.kind, "0") || (is_text(b.kind, "1") && is_given(b.duration_max));
@@ -154,7 +154,7 @@ fn may_start_on_day(b: &BookingRule<'_>) -> bool
 fn has_stray_service(b: &BookingRule<'_>) -> bool
     ensures { (r : Values) → IsReadBooking r b.now
         → result ≡ (Refusals.is_given (r "prior_notice_service_id") && not
-        (Words.is_text (r "booking_type") "2")) }
+        (Rules.is_text (r "booking_type") "2")) }
 {
     is_given(b.service) && !is_text(b.kind, "2")
 }
@@ -185,7 +185,7 @@ fn notice_rules(b: &BookingRule<'_>) -> [Option<FaultCode>; 7]
 fn record_rules(b: &BookingRule<'_>, is_repeated: bool) -> [Option<FaultCode>; 3]
     ensures { (earlier : List Values) (r : Values) → IsReadBooking r b.now
         → is_repeated ≡ repeats_id "booking_rule_id" earlier r
-        → result ++ (if Words.is_no (Grammars.choice 0 2) (r "booking_type") then []
+        → result ++ (if Rules.is_no (Grammars.choice 0 2) (r "booking_type") then []
         else FeedRules.notice_rules r) ≡ FeedRules.booking_rules earlier r }
 {
     [
@@ -205,7 +205,7 @@ fn add_booking_faults(
     ensures { (earlier : List Values) (r : Values) → IsReadBooking r b.now
         → is_repeated ≡ repeats_id "booking_rule_id" earlier r
         → OnOk result (faults.new ≡ faults.old
-        ++ faults_at Files.BookingRules row (FeedRules.booking_rules earlier r)) }
+        ++ faults_at InputFiles.BookingRules row (FeedRules.booking_rules earlier r)) }
 {
     let first_rules = record_rules(b, is_repeated);
     add_faults(faults, InputFile::BookingRules, row, &first_rules)?;
@@ -219,7 +219,7 @@ fn add_booking_faults(
 /// The faults of the records of booking_rules.txt by themselves.
 pub(crate) fn booking_rule_faults(alloc: Global, table: &Table) -> Result<Listed<Fault>, NoMemory>
     ensures { IfOk result
-        (λ faults. faults ≡ record_faults Files.BookingRules FeedRules.booking_rules
+        (λ faults. faults ≡ record_faults InputFiles.BookingRules FeedRules.booking_rules
         (entries_of table.now)) }
 {
     let columns = booking_columns(table);

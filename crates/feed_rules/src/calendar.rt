@@ -1,7 +1,7 @@
 // The faults of the records of calendar.txt by themselves.
 
 ghost use Rattle.std.specs.Prelude.{◌≡◌, ℕ, List, IfOk, int_lt};
-ghost use Rattle.flex_model.specs.declared.fault.InputFile.TheVariants as Files;
+ghost use Rattle.flex_model.specs.declared.fault.InputFile.TheVariants as InputFiles;
 ghost use Rattle.feed_tables.specs.Records.{header_of};
 ghost use Rattle.feed_meaning.specs.FeedRules;
 ghost use Rattle.feed_meaning.specs.Rules.{Values, repeats_id, stand};
@@ -115,7 +115,8 @@ fn calendar_rules(w: &ServiceWeek<'_>, is_repeated: bool) -> [Option<FaultCode>;
 
 /// The faults of the records of calendar.txt by themselves.
 pub(crate) fn calendar_faults(alloc: Global, table: &Table) -> Result<Listed<Fault>, NoMemory>
-    ensures { IfOk result (λ faults. faults ≡ record_faults Files.Calendar FeedRules.calendar_rules
+    ensures { IfOk result
+        (λ faults. faults ≡ record_faults InputFiles.Calendar FeedRules.calendar_rules
         (entries_of table.now)) }
 {
     let columns = week_columns(table);

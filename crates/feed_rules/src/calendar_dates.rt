@@ -3,7 +3,7 @@
 ghost use Rattle.std.specs.Prelude.{◌≡◌, List, IfOk};
 ghost use Rattle.std.specs.Ordering.{int_eq};
 ghost use Rattle.std.specs.Str.{bytes_eq};
-ghost use Rattle.flex_model.specs.declared.fault.InputFile.TheVariants as Files;
+ghost use Rattle.flex_model.specs.declared.fault.InputFile.TheVariants as InputFiles;
 ghost use Rattle.field_text.specs.Grammars as Grammars;
 ghost use Rattle.field_text.specs.Grammars.{id};
 ghost use Rattle.feed_meaning.specs.FeedRules;
@@ -42,7 +42,7 @@ fn date_rules(
 /// The faults of the records of calendar_dates.txt by themselves.
 pub(crate) fn calendar_date_faults(alloc: Global, table: &Table) -> Result<Listed<Fault>, NoMemory>
     ensures { IfOk result
-        (λ faults. faults ≡ record_faults Files.CalendarDates FeedRules.calendar_date_rules
+        (λ faults. faults ≡ record_faults InputFiles.CalendarDates FeedRules.calendar_date_rules
         (entries_of table.now)) }
 {
     let service_id = table.column("service_id");

@@ -2,7 +2,7 @@
 
 ghost use Rattle.std.specs.Prelude.{◌≡◌, ◌++◌, [], IfOk, OnOk};
 ghost use Rattle.std.specs.List.{flat_map};
-ghost use Rattle.flex_model.specs.declared.fault.InputFile.TheVariants as Files;
+ghost use Rattle.flex_model.specs.declared.fault.InputFile.TheVariants as InputFiles;
 ghost use Rattle.feed_meaning.specs.FeedFaults.{Geo, feed_faults, feed_level_two, link_faults, tables};
 ghost use Rattle.feed_meaning.specs.Folder.{Folder};
 ghost use Rattle.feed_rules.specs.Folders.{ReadsFolder};
@@ -104,7 +104,7 @@ fn all_link_faults<'a>(
     ensures { IfOk result (λ faults. (geo : Geo) (folder : Folder) → ReadsFolder raw.now folder
         → Levels.level_one raw.now ≡ []
         → StandFor ids.now (tables geo folder)
-        → AreOrdersOf order.now (tables geo folder Files.StopTimes)
+        → AreOrdersOf order.now (tables geo folder InputFiles.StopTimes)
         → faults ≡ flat_map (link_faults geo folder) Levels.feed_tables) }
 {
     let mut faults = Listed::new(alloc);

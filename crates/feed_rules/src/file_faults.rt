@@ -4,7 +4,7 @@ ghost use Rattle.std.specs.Prelude.{◌≡◌, IfOk, IsTrue, codes, map};
 ghost use Rattle.std.specs.List.{list_all};
 ghost use Rattle.feed_tables.specs.Refusals.{is_given};
 ghost use Rattle.feed_meaning.specs.Tables.{entries_of, record_faults};
-ghost use Rattle.feed_rules.specs.Found as Words;
+ghost use Rattle.feed_rules.specs.Found as FoundFiles;
 ghost use Rattle.feed_rules.specs.Found.{found_faults, schema_of};
 
 use crate::agency::agency_faults;
@@ -87,7 +87,7 @@ fn outer_faults(
     is_needed: bool,
     found: &Found,
 ) -> Result<Listed<Fault>, NoMemory>
-    ensures { IfOk result (λ faults. faults ≡ Words.outer_faults file is_needed found.now) }
+    ensures { IfOk result (λ faults. faults ≡ FoundFiles.outer_faults file is_needed found.now) }
 {
     let mut faults = Listed::new(alloc);
     if !is_found(file, found) {

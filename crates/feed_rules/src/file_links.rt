@@ -2,7 +2,7 @@
 
 ghost use Rattle.std.specs.Prelude.{◌≡◌, IfOk, true};
 ghost use Rattle.std.specs.List.{flat_map};
-ghost use Rattle.flex_model.specs.declared.fault.InputFile.TheVariants as Files;
+ghost use Rattle.flex_model.specs.declared.fault.InputFile.TheVariants as InputFiles;
 ghost use Rattle.feed_meaning.specs.FeedFaults.{links_of};
 ghost use Rattle.feed_meaning.specs.FeedLinks.{Tables};
 ghost use Rattle.feed_meaning.specs.Tables.{entries_of, faults_at};
@@ -29,7 +29,7 @@ pub(crate) fn file_link_faults<'a>(
     order: &TripOrder<'a>,
 ) -> Result<Listed<Fault>, NoMemory>
     ensures { IfOk result (λ faults. (tables : Tables) → is_feed_table file ≡ true
-        → StandFor ids.now tables → AreOrdersOf order.now (tables Files.StopTimes)
+        → StandFor ids.now tables → AreOrdersOf order.now (tables InputFiles.StopTimes)
         → HaveGroupIds file (entries_of table.now)
         → faults ≡ flat_map (λ e. faults_at file e.row (links_of file tables e.values))
         (entries_of table.now)) }

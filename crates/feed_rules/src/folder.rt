@@ -3,7 +3,7 @@
 ghost use Rattle.std.specs.Prelude.{◌≡◌, ◌<◌, ◌↔◌, IfOk, IsTrue, MatchOption, false, set};
 ghost use Rattle.std.specs.Option.{option_map};
 ghost use Rattle.flex_model.specs.declared.fault.InputFile.{InputFile};
-ghost use Rattle.flex_model.specs.declared.fault.InputFile.TheVariants as Files;
+ghost use Rattle.flex_model.specs.declared.fault.InputFile.TheVariants as InputFiles;
 ghost use Rattle.flex_model.specs.declared.fault.RawFile.TheVariants as Raw;
 ghost use Rattle.feed_meaning.specs.Folder.{Folder};
 ghost use Rattle.feed_meaning.specs.Told.{IsWithin};
@@ -208,7 +208,7 @@ impl RawFeed {
     pub fn zones(&self) -> Option<&Listed<ZoneRecord>>
         ensures found { option_map (λ zones. zones.now) result ≡ zones_in (found_zones self.now) }
         ensures zones { (folder : Folder) → ReadsFolder self.now folder
-            → AreZonesOf (folder Files.Locations) (option_map (λ zones. zones.now) result) }
+            → AreZonesOf (folder InputFiles.Locations) (option_map (λ zones. zones.now) result) }
     {
         match &self.zones {
             FoundZones::Read(zones) => Some(zones),

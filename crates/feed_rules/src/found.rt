@@ -2,7 +2,7 @@
 
 ghost use Rattle.std.specs.Prelude.{◌≡◌, IfOk};
 ghost use Rattle.feed_meaning.specs.Told.{IsWithin};
-ghost use Rattle.feed_rules.specs.Found as Words;
+ghost use Rattle.feed_rules.specs.Found as FoundFiles;
 ghost use Rattle.feed_rules.specs.Found.{IsFound};
 
 use feed_meaning::may_be_blank;
@@ -42,7 +42,7 @@ pub(crate) fn read_file(alloc: Global, raw: &RawFile) -> Result<Found, NoMemory>
 
 /// Whether the file was found, and doesn't count as absent.
 pub(crate) fn is_found(file: InputFile, found: &Found) -> bool
-    ensures { result ≡ Words.is_found file found.now }
+    ensures { result ≡ FoundFiles.is_found file found.now }
 {
     match found {
         Found::Absent => false,

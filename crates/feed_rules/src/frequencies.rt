@@ -2,7 +2,7 @@
 
 ghost use Rattle.std.specs.Prelude.{◌≡◌, List, IfOk, nat_eq, nat_le};
 ghost use Rattle.std.specs.Str.{bytes_eq};
-ghost use Rattle.flex_model.specs.declared.fault.InputFile.TheVariants as Files;
+ghost use Rattle.flex_model.specs.declared.fault.InputFile.TheVariants as InputFiles;
 ghost use Rattle.field_text.specs.Grammars as Grammars;
 ghost use Rattle.field_text.specs.Grammars.{id};
 ghost use Rattle.feed_meaning.specs.FeedRules;
@@ -69,7 +69,7 @@ fn frequency_rules(
 /// The faults of the records of frequencies.txt by themselves.
 pub(crate) fn frequency_faults(alloc: Global, table: &Table) -> Result<Listed<Fault>, NoMemory>
     ensures { IfOk result
-        (λ faults. faults ≡ record_faults Files.Frequencies FeedRules.frequency_rules
+        (λ faults. faults ≡ record_faults InputFiles.Frequencies FeedRules.frequency_rules
         (entries_of table.now)) }
 {
     let trip_id = table.column("trip_id");

@@ -3,7 +3,7 @@
 ghost use Rattle.std.specs.Prelude.{◌≡◌, ◌≢◌, [], ℕ, List, IfOk, true};
 ghost use Rattle.std.specs.List.{list_any};
 ghost use Rattle.std.specs.Str.{bytes_eq};
-ghost use Rattle.flex_model.specs.declared.fault.InputFile.TheVariants as Files;
+ghost use Rattle.flex_model.specs.declared.fault.InputFile.TheVariants as InputFiles;
 ghost use Rattle.feed_tables.specs.Refusals.{is_given};
 ghost use Rattle.feed_meaning.specs.FeedLinks.{Tables, is_station};
 ghost use Rattle.feed_rules.specs.Links.{AreTablesOf, StandFor, StandForColumn, records_in};
@@ -44,7 +44,8 @@ fn known_ids_in<'a>(
 
 // The ids of the stops where one can't board, none where there is no table.
 fn known_stations<'a>(alloc: Global, stops: Option<&'a Table>) -> Result<Ids<'a>, NoMemory>
-    ensures { IfOk result (λ ids. (tables : Tables) → tables Files.Stops ≡ records_in stops.entry
+    ensures { IfOk result (λ ids. (tables : Tables)
+        → tables InputFiles.Stops ≡ records_in stops.entry
         → (text : List ℕ) → is_given text ≡ true
         → list_any (bytes_eq text) ids ≡ is_station tables text) }
 {

@@ -3,7 +3,7 @@
 ghost use Rattle.std.specs.Prelude.{◌≡◌, ◌&&◌, List, IfOk, not};
 ghost use Rattle.std.specs.List.{flat_map, list_any};
 ghost use Rattle.std.specs.Str.{bytes_eq};
-ghost use Rattle.flex_model.specs.declared.fault.InputFile.TheVariants as Files;
+ghost use Rattle.flex_model.specs.declared.fault.InputFile.TheVariants as InputFiles;
 ghost use Rattle.feed_tables.specs.Refusals.{is_given};
 ghost use Rattle.feed_meaning.specs.FeedLinks;
 ghost use Rattle.feed_meaning.specs.FeedLinks.{Tables};
@@ -74,7 +74,7 @@ pub(crate) fn trip_link_faults(
     ids: &LinkIds<'_>,
 ) -> Result<Listed<Fault>, NoMemory>
     ensures { IfOk result (λ faults. (tables : Tables) → StandFor ids.now tables
-        → faults ≡ flat_map (λ e. faults_at Files.Trips e.row
+        → faults ≡ flat_map (λ e. faults_at InputFiles.Trips e.row
         (FeedLinks.trip_links tables e.values)) (entries_of trips.now)) }
 {
     let route_id = trips.column("route_id");
@@ -96,7 +96,7 @@ fn stop_time_links<'a>(
     order: &TripOrder<'a>,
 ) -> [Option<FaultCode>; 9]
     ensures { (tables : Tables) (r : Values) → IsRead r s.now → StandFor ids.now tables
-        → AreOrdersOf order.now (tables Files.StopTimes)
+        → AreOrdersOf order.now (tables InputFiles.StopTimes)
         → result ≡ FeedLinks.stop_time_links tables r }
 {
     [
@@ -126,8 +126,8 @@ pub(crate) fn stop_time_link_faults<'a>(
     order: &TripOrder<'a>,
 ) -> Result<Listed<Fault>, NoMemory>
     ensures { IfOk result (λ faults. (tables : Tables) → StandFor ids.now tables
-        → AreOrdersOf order.now (tables Files.StopTimes)
-        → faults ≡ flat_map (λ e. faults_at Files.StopTimes e.row
+        → AreOrdersOf order.now (tables InputFiles.StopTimes)
+        → faults ≡ flat_map (λ e. faults_at InputFiles.StopTimes e.row
         (FeedLinks.stop_time_links tables e.values)) (entries_of stop_times.now)) }
 {
     let columns = stop_time_columns(stop_times);

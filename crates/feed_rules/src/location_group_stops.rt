@@ -1,7 +1,7 @@
 // The faults of the records of location_group_stops.txt by themselves.
 
 ghost use Rattle.std.specs.Prelude.{◌≡◌, List, IfOk};
-ghost use Rattle.flex_model.specs.declared.fault.InputFile.TheVariants as Files;
+ghost use Rattle.flex_model.specs.declared.fault.InputFile.TheVariants as InputFiles;
 ghost use Rattle.feed_meaning.specs.FeedRules;
 ghost use Rattle.feed_meaning.specs.Rules.{Values};
 ghost use Rattle.feed_meaning.specs.Tables.{entries_of, record_faults};
@@ -25,7 +25,7 @@ fn group_stop_rules(group: &str, stop: &str) -> [Option<FaultCode>; 2]
 /// The faults of the records of location_group_stops.txt by themselves.
 pub(crate) fn group_stop_faults(alloc: Global, table: &Table) -> Result<Listed<Fault>, NoMemory>
     ensures { IfOk result
-        (λ faults. faults ≡ record_faults Files.LocationGroupStops FeedRules.group_stop_rules
+        (λ faults. faults ≡ record_faults InputFiles.LocationGroupStops FeedRules.group_stop_rules
         (entries_of table.now)) }
 {
     let location_group_id = table.column("location_group_id");

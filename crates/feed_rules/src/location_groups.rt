@@ -1,7 +1,7 @@
 // The faults of the records of location_groups.txt by themselves.
 
 ghost use Rattle.std.specs.Prelude.{◌≡◌, List, IfOk};
-ghost use Rattle.flex_model.specs.declared.fault.InputFile.TheVariants as Files;
+ghost use Rattle.flex_model.specs.declared.fault.InputFile.TheVariants as InputFiles;
 ghost use Rattle.feed_meaning.specs.FeedRules;
 ghost use Rattle.feed_meaning.specs.Rules.{Values, repeats_id};
 ghost use Rattle.feed_meaning.specs.Tables.{entries_of, record_faults};
@@ -26,7 +26,7 @@ fn group_rules(group: &str, is_repeated: bool) -> [Option<FaultCode>; 2]
 /// The faults of the records of location_groups.txt by themselves.
 pub(crate) fn group_faults(alloc: Global, table: &Table) -> Result<Listed<Fault>, NoMemory>
     ensures { IfOk result
-        (λ faults. faults ≡ record_faults Files.LocationGroups FeedRules.group_rules
+        (λ faults. faults ≡ record_faults InputFiles.LocationGroups FeedRules.group_rules
         (entries_of table.now)) }
 {
     let location_group_id = table.column("location_group_id");

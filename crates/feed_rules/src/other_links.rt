@@ -2,7 +2,7 @@
 
 ghost use Rattle.std.specs.Prelude.{◌≡◌, ◌||◌, IfOk, true};
 ghost use Rattle.std.specs.List.{flat_map};
-ghost use Rattle.flex_model.specs.declared.fault.InputFile.TheVariants as Files;
+ghost use Rattle.flex_model.specs.declared.fault.InputFile.TheVariants as InputFiles;
 ghost use Rattle.feed_tables.specs.Refusals.{is_given};
 ghost use Rattle.feed_meaning.specs.FeedLinks;
 ghost use Rattle.feed_meaning.specs.FeedLinks.{Tables, is_in};
@@ -21,8 +21,8 @@ use std::alloc::Global;
 // Whether a text is the id of a stop or of a feature.
 fn is_shared(ids: &LinkIds<'_>, text: &str) -> bool
     ensures { (tables : Tables) → StandFor ids.now tables → is_given text.now ≡ true
-        → result ≡ (is_in tables Files.Stops "stop_id" text.now
-        || is_in tables Files.Locations "id" text.now) }
+        → result ≡ (is_in tables InputFiles.Stops "stop_id" text.now
+        || is_in tables InputFiles.Locations "id" text.now) }
 {
     ids.stops.has(text) || ids.zones.has(text)
 }
@@ -43,8 +43,8 @@ pub(crate) fn group_link_faults(
     ids: &LinkIds<'_>,
 ) -> Result<Listed<Fault>, NoMemory>
     ensures { IfOk result (λ faults. (tables : Tables) → StandFor ids.now tables
-        → HaveGroupIds Files.LocationGroups (entries_of groups.now)
-        → faults ≡ flat_map (λ e. faults_at Files.LocationGroups e.row
+        → HaveGroupIds InputFiles.LocationGroups (entries_of groups.now)
+        → faults ≡ flat_map (λ e. faults_at InputFiles.LocationGroups e.row
         (FeedLinks.group_links tables e.values)) (entries_of groups.now)) }
 {
     let location_group_id = groups.column("location_group_id");
@@ -76,7 +76,7 @@ pub(crate) fn group_stop_link_faults(
     ids: &LinkIds<'_>,
 ) -> Result<Listed<Fault>, NoMemory>
     ensures { IfOk result (λ faults. (tables : Tables) → StandFor ids.now tables
-        → faults ≡ flat_map (λ e. faults_at Files.LocationGroupStops e.row
+        → faults ≡ flat_map (λ e. faults_at InputFiles.LocationGroupStops e.row
         (FeedLinks.group_stop_links tables e.values)) (entries_of group_stops.now)) }
 {
     let location_group_id = group_stops.column("location_group_id");
@@ -112,7 +112,7 @@ pub(crate) fn booking_rule_link_faults(
     ids: &LinkIds<'_>,
 ) -> Result<Listed<Fault>, NoMemory>
     ensures { IfOk result (λ faults. (tables : Tables) → StandFor ids.now tables
-        → faults ≡ flat_map (λ e. faults_at Files.BookingRules e.row
+        → faults ≡ flat_map (λ e. faults_at InputFiles.BookingRules e.row
         (FeedLinks.booking_rule_links tables e.values)) (entries_of booking_rules.now)) }
 {
     let service_id = booking_rules.column("prior_notice_service_id");
@@ -143,7 +143,7 @@ pub(crate) fn transfer_link_faults(
     ids: &LinkIds<'_>,
 ) -> Result<Listed<Fault>, NoMemory>
     ensures { IfOk result (λ faults. (tables : Tables) → StandFor ids.now tables
-        → faults ≡ flat_map (λ e. faults_at Files.Transfers e.row
+        → faults ≡ flat_map (λ e. faults_at InputFiles.Transfers e.row
         (FeedLinks.transfer_links tables e.values)) (entries_of transfers.now)) }
 {
     let columns = transfer_columns(transfers);
@@ -174,7 +174,7 @@ pub(crate) fn frequency_link_faults(
     ids: &LinkIds<'_>,
 ) -> Result<Listed<Fault>, NoMemory>
     ensures { IfOk result (λ faults. (tables : Tables) → StandFor ids.now tables
-        → faults ≡ flat_map (λ e. faults_at Files.Frequencies e.row
+        → faults ≡ flat_map (λ e. faults_at InputFiles.Frequencies e.row
         (FeedLinks.frequency_links tables e.values)) (entries_of frequencies.now)) }
 {
     let trip_id = frequencies.column("trip_id");

@@ -1,7 +1,7 @@
 // The faults of the records of routes.txt by themselves.
 
 ghost use Rattle.std.specs.Prelude.{◌≡◌, List, IfOk};
-ghost use Rattle.flex_model.specs.declared.fault.InputFile.TheVariants as Files;
+ghost use Rattle.flex_model.specs.declared.fault.InputFile.TheVariants as InputFiles;
 ghost use Rattle.feed_meaning.specs.FeedRules;
 ghost use Rattle.feed_meaning.specs.Rules.{Values, repeats_id};
 ghost use Rattle.feed_meaning.specs.Tables.{entries_of, record_faults};
@@ -25,7 +25,7 @@ fn route_rules(route: &str, is_repeated: bool) -> [Option<FaultCode>; 2]
 
 /// The faults of the records of routes.txt by themselves.
 pub(crate) fn route_faults(alloc: Global, table: &Table) -> Result<Listed<Fault>, NoMemory>
-    ensures { IfOk result (λ faults. faults ≡ record_faults Files.Routes FeedRules.route_rules
+    ensures { IfOk result (λ faults. faults ≡ record_faults InputFiles.Routes FeedRules.route_rules
         (entries_of table.now)) }
 {
     let route_id = table.column("route_id");

@@ -2,12 +2,12 @@
 
 ghost use Rattle.std.specs.Prelude.{◌≡◌, ◌∷◌, [], ℕ, List, IfOk, nat_eq};
 ghost use Rattle.std.specs.Str.{bytes_eq};
-ghost use Rattle.flex_model.specs.declared.fault.InputFile.TheVariants as Files;
+ghost use Rattle.flex_model.specs.declared.fault.InputFile.TheVariants as InputFiles;
 ghost use Rattle.feed_tables.specs.Records.{header_of};
 ghost use Rattle.field_text.specs.Grammars.{id};
 ghost use Rattle.feed_meaning.specs.FeedRules;
 ghost use Rattle.feed_meaning.specs.FeedRules.{sequence};
-ghost use Rattle.feed_meaning.specs.Rules as Words;
+ghost use Rattle.feed_meaning.specs.Rules;
 ghost use Rattle.feed_meaning.specs.Rules.{Values, are_same_pairs, both, repeats};
 ghost use Rattle.feed_meaning.specs.Tables.{entries_of, record_faults, values_of};
 ghost use Rattle.feed_rules.specs.StopTimes.{AreColumns, IsRead};
@@ -121,7 +121,7 @@ pub(crate) fn read_stop_time<'a>(row: &RowView<'a>, columns: StopTimeColumns) ->
 }
 
 fn given_count(a: &str, b: &str, c: &str) -> u32
-    ensures { result ≡ Words.given_count (a.now ∷ b.now ∷ c.now ∷ []) }
+    ensures { result ≡ Rules.given_count (a.now ∷ b.now ∷ c.now ∷ []) }
 {
     let mut count = 0;
     if is_given(a) {
@@ -199,7 +199,7 @@ fn stop_time_rules(s: &StopTime<'_>, is_repeated: bool) -> [Option<FaultCode>; 1
 /// The faults of the records of stop_times.txt by themselves.
 pub(crate) fn stop_time_faults(alloc: Global, table: &Table) -> Result<Listed<Fault>, NoMemory>
     ensures { IfOk result
-        (λ faults. faults ≡ record_faults Files.StopTimes FeedRules.stop_time_rules
+        (λ faults. faults ≡ record_faults InputFiles.StopTimes FeedRules.stop_time_rules
         (entries_of table.now)) }
 {
     let columns = stop_time_columns(table);

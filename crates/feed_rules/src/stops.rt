@@ -2,9 +2,9 @@
 
 ghost use Rattle.std.specs.Prelude.{◌≡◌, ◌||◌, List, IfOk, codes};
 ghost use Rattle.std.specs.Str.{bytes_eq};
-ghost use Rattle.flex_model.specs.declared.fault.InputFile.TheVariants as Files;
+ghost use Rattle.flex_model.specs.declared.fault.InputFile.TheVariants as InputFiles;
 ghost use Rattle.feed_meaning.specs.FeedRules;
-ghost use Rattle.feed_meaning.specs.Rules as Words;
+ghost use Rattle.feed_meaning.specs.Rules;
 ghost use Rattle.feed_meaning.specs.Rules.{Values, repeats_id};
 ghost use Rattle.feed_meaning.specs.Tables.{entries_of, record_faults};
 
@@ -16,7 +16,7 @@ use std::alloc::Global;
 
 /// Whether one can board at a stop with this location_type.
 pub(crate) fn is_boarding(kind: &str) -> bool
-    ensures { result ≡ (Words.is_empty kind.now || Words.is_text kind.now "0") }
+    ensures { result ≡ (Rules.is_empty kind.now || Rules.is_text kind.now "0") }
 {
     is_empty(kind) || is_text(kind, "0")
 }
@@ -48,7 +48,7 @@ fn stop_rules(
 
 /// The faults of the records of stops.txt by themselves.
 pub(crate) fn stop_faults(alloc: Global, table: &Table) -> Result<Listed<Fault>, NoMemory>
-    ensures { IfOk result (λ faults. faults ≡ record_faults Files.Stops FeedRules.stop_rules
+    ensures { IfOk result (λ faults. faults ≡ record_faults InputFiles.Stops FeedRules.stop_rules
         (entries_of table.now)) }
 {
     let stop_id = table.column("stop_id");

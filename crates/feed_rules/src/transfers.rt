@@ -2,7 +2,7 @@
 
 ghost use Rattle.std.specs.Prelude.{◌≡◌, ◌++◌, ◌∷◌, ◌&&◌, ◌||◌, [], ℕ, List, IfOk, OnOk, not};
 ghost use Rattle.std.specs.Str.{bytes_eq};
-ghost use Rattle.flex_model.specs.declared.fault.InputFile.TheVariants as Files;
+ghost use Rattle.flex_model.specs.declared.fault.InputFile.TheVariants as InputFiles;
 ghost use Rattle.feed_tables.specs.Records.{header_of};
 ghost use Rattle.field_text.specs.Grammars.{count, id};
 ghost use Rattle.feed_meaning.specs.FeedRules;
@@ -169,7 +169,7 @@ fn add_transfer_faults(
         → is_repeated ≡ (not (FeedRules.is_passed_over r) && repeats_ids "from_stop_id" "to_stop_id"
         (changes earlier) r)
         → OnOk result (faults.new ≡ faults.old
-        ++ faults_at Files.Transfers row (FeedRules.transfer_rules earlier r)) }
+        ++ faults_at InputFiles.Transfers row (FeedRules.transfer_rules earlier r)) }
 {
     let kind_rules = [rule(FaultCode::BadEnum, is_bad(t.kind, t.kind_number))];
     add_faults(faults, InputFile::Transfers, row, &kind_rules)?;
@@ -182,7 +182,8 @@ fn add_transfer_faults(
 
 /// The faults of the records of transfers.txt by themselves.
 pub(crate) fn transfer_faults(alloc: Global, table: &Table) -> Result<Listed<Fault>, NoMemory>
-    ensures { IfOk result (λ faults. faults ≡ record_faults Files.Transfers FeedRules.transfer_rules
+    ensures { IfOk result
+        (λ faults. faults ≡ record_faults InputFiles.Transfers FeedRules.transfer_rules
         (entries_of table.now)) }
 {
     let columns = transfer_columns(table);

@@ -1,7 +1,7 @@
 // The faults of the records of trips.txt by themselves.
 
 ghost use Rattle.std.specs.Prelude.{◌≡◌, List, IfOk};
-ghost use Rattle.flex_model.specs.declared.fault.InputFile.TheVariants as Files;
+ghost use Rattle.flex_model.specs.declared.fault.InputFile.TheVariants as InputFiles;
 ghost use Rattle.feed_meaning.specs.FeedRules;
 ghost use Rattle.feed_meaning.specs.Rules.{Values, repeats_id};
 ghost use Rattle.feed_meaning.specs.Tables.{entries_of, record_faults};
@@ -27,7 +27,7 @@ fn trip_rules(trip: &str, route: &str, service: &str, is_repeated: bool) -> [Opt
 
 /// The faults of the records of trips.txt by themselves.
 pub(crate) fn trip_faults(alloc: Global, table: &Table) -> Result<Listed<Fault>, NoMemory>
-    ensures { IfOk result (λ faults. faults ≡ record_faults Files.Trips FeedRules.trip_rules
+    ensures { IfOk result (λ faults. faults ≡ record_faults InputFiles.Trips FeedRules.trip_rules
         (entries_of table.now)) }
 {
     let trip_id = table.column("trip_id");

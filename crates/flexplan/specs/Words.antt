@@ -23,14 +23,14 @@ abbrev pub texts : List (Bor (List ℕ)) → List (List ℕ)
 texts words = map (λ word. word.now) words
 
 -- a word that isn't empty and doesn't begin with a hyphen
-abbrev pub is_plain : List ℕ → Bool
-is_plain [] = false
-is_plain (first ∷ _) = not (first == 45)
+abbrev pub is_path : List ℕ → Bool
+is_path [] = false
+is_path (first ∷ _) = not (first == 45)
 
 -- the words are this command and three plain paths
 abbrev pub three_paths : List ℕ → List (List ℕ) → Option InputPaths
 three_paths name (command ∷ feed ∷ times ∷ queries ∷ []) =
-    if bytes_eq command name && is_plain feed && is_plain times && is_plain queries then
+    if bytes_eq command name && is_path feed && is_path times && is_path queries then
     Some (record { feed = feed; times = times; queries = queries })
     else None
 three_paths name _ = None
@@ -38,7 +38,7 @@ three_paths name _ = None
 -- the words are this command and one plain path
 abbrev pub one_path : List ℕ → List (List ℕ) → Option (List ℕ)
 one_path name (command ∷ path ∷ []) =
-    if bytes_eq command name && is_plain path then Some path else None
+    if bytes_eq command name && is_path path then Some path else None
 one_path name _ = None
 
 -- what the words ask for, or none where they are of no accepted form

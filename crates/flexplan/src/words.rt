@@ -1,7 +1,7 @@
 // The words of the command line, read by hand: no memory is needed to refuse them.
 ghost use Rattle.std.specs.Prelude.{◌≡◌};
 ghost use Rattle.std.specs.Option.{option_map};
-ghost use Rattle.flexplan.specs.Words.{paths, request, request_of, texts, is_plain, one_path, three_paths};
+ghost use Rattle.flexplan.specs.Words.{paths, request, request_of, texts, is_path, one_path, three_paths};
 
 /// Where the input lies.
 #[derive(Clone, Copy)]
@@ -21,8 +21,8 @@ pub enum Command<'a> {
 }
 
 // A word that isn't empty and doesn't begin with a hyphen.
-fn is_plain(word: &str) -> bool
-    ensures { result ≡ is_plain word.now }
+fn is_path(word: &str) -> bool
+    ensures { result ≡ is_path word.now }
 {
     match word.as_bytes() {
         [] => false,
@@ -36,7 +36,7 @@ fn three_paths<'a>(name: &str, words: &[&'a str]) -> Option<Paths<'a>>
 {
     match words {
         [command, feed, times, queries]
-            if *command == name && is_plain(feed) && is_plain(times) && is_plain(queries) => {
+            if *command == name && is_path(feed) && is_path(times) && is_path(queries) => {
             Some(Paths {
                 feed,
                 times,
@@ -52,7 +52,7 @@ fn one_path<'a>(name: &str, words: &[&'a str]) -> Option<&'a str>
     ensures { option_map (λ path. path.now) result ≡ one_path name.now (texts words.now) }
 {
     match words {
-        [command, path] if *command == name && is_plain(path) => Some(path),
+        [command, path] if *command == name && is_path(path) => Some(path),
         _ => None,
     }
 }

@@ -4,7 +4,7 @@ ghost use Rattle.std.specs.Prelude.{◌≡◌, IfOk, IsTrue, codes, map, true};
 ghost use Rattle.std.specs.List.{list_all};
 ghost use Rattle.feed_tables.specs.Refusals.{is_given};
 ghost use Rattle.feed_meaning.specs.Tables.{entries_of, record_faults};
-ghost use Rattle.place_times.specs.Found as Words;
+ghost use Rattle.place_times.specs.Found as FoundFiles;
 ghost use Rattle.place_times.specs.Found.{found_faults, is_times_table, schema_of};
 
 use crate::found::Found;
@@ -44,7 +44,7 @@ fn row_faults(alloc: Global, file: InputFile, table: &Table) -> Result<Listed<Fa
 
 // The faults of a table before its records are judged.
 fn outer_faults(alloc: Global, file: InputFile, found: &Found) -> Result<Listed<Fault>, NoMemory>
-    ensures { IfOk result (λ faults. faults ≡ Words.outer_faults file found.now) }
+    ensures { IfOk result (λ faults. faults ≡ FoundFiles.outer_faults file found.now) }
 {
     let mut faults = Listed::new(alloc);
     match found {

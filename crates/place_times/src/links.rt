@@ -2,7 +2,7 @@
 
 ghost use Rattle.std.specs.Prelude.{◌≡◌, List, IfOk, map};
 ghost use Rattle.std.specs.List.{flat_map};
-ghost use Rattle.flex_model.specs.declared.fault.InputFile.TheVariants as Files;
+ghost use Rattle.flex_model.specs.declared.fault.InputFile.TheVariants as InputFiles;
 ghost use Rattle.flex_model.specs.declared.feed.Feed as Feeds;
 ghost use Rattle.flex_model.specs.declared.place.Point as Places;
 ghost use Rattle.feed_meaning.specs.Rules.{Values};
@@ -34,7 +34,7 @@ pub(crate) fn point_link_faults(
 ) -> Result<Listed<Fault>, NoMemory>
     ensures { IfOk result (λ faults. (feed : Feeds.Feed) (points : List Places.Point)
         → ArePlaceIds feed points ids.now
-        → faults ≡ flat_map (λ e. faults_at Files.Points e.row
+        → faults ≡ flat_map (λ e. faults_at InputFiles.Points e.row
         (TimesFaults.point_links feed e.values)) (entries_of table.now)) }
 {
     let point_id = table.column("point_id");

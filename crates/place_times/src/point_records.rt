@@ -1,7 +1,7 @@
 // The records of points.txt: the rules that each breaks by itself, and its point.
 
 ghost use Rattle.std.specs.Prelude.{◌≡◌, List, IfOk, map};
-ghost use Rattle.flex_model.specs.declared.fault.InputFile.TheVariants as Files;
+ghost use Rattle.flex_model.specs.declared.fault.InputFile.TheVariants as InputFiles;
 ghost use Rattle.feed_meaning.specs.FeedValue.{coordinate};
 ghost use Rattle.feed_meaning.specs.Rules.{Values, repeats_id};
 ghost use Rattle.feed_meaning.specs.Tables.{entries_of, record_faults};
@@ -31,7 +31,8 @@ fn point_rules(point: &str, is_repeated: bool, lat: &str, lon: &str) -> [Option<
 
 /// The faults of the records of points.txt by themselves.
 pub(crate) fn point_faults(alloc: Global, table: &Table) -> Result<Listed<Fault>, NoMemory>
-    ensures { IfOk result (λ faults. faults ≡ record_faults Files.Points TimesFaults.point_rules
+    ensures { IfOk result
+        (λ faults. faults ≡ record_faults InputFiles.Points TimesFaults.point_rules
         (entries_of table.now)) }
 {
     let point_id = table.column("point_id");

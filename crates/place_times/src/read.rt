@@ -2,7 +2,7 @@
 
 ghost use Rattle.std.specs.Prelude.{◌≡◌, ◌++◌, ◌<◌, ◌^◌, List, IfOk, OnOk, false, map};
 ghost use Rattle.std.specs.Option.{option_to_list};
-ghost use Rattle.flex_model.specs.declared.fault.InputFile as Files;
+ghost use Rattle.flex_model.specs.declared.fault.InputFile as FileType;
 ghost use Rattle.flex_model.specs.declared.feed.Feed as Feeds;
 ghost use Rattle.flex_model.specs.declared.place.Point as Places;
 ghost use Rattle.flex_model.specs.SoundFeed.{IsSoundFeed};
@@ -219,7 +219,7 @@ fn found_spans(
 ) -> Result<Listed<Span>, NoMemory>
     requires { most < 2 ^ 32 }
     ensures { IfOk result (λ spans. (feed : Feeds.Feed) (points : List Values)
-        (file : Files.InputFile) → ArePlaceIds feed (map point_of points) ids.now
+        (file : FileType.InputFile) → ArePlaceIds feed (map point_of points) ids.now
         → AreAcceptedSpans feed points file most (records_of found.now)
         → spans ≡ rising span_before (map (Value.span_of feed (map point_of points))
         (values_of_found found.now))) }

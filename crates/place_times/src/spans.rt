@@ -1,7 +1,7 @@
 // The spans of direct.txt and walks.txt, by where they begin and then by where they end.
 
 ghost use Rattle.std.specs.Prelude.{◌≡◌, ◌<◌, ◌^◌, List, IfOk, IsPermutation, IsSortedBy, map};
-ghost use Rattle.flex_model.specs.declared.fault.InputFile as Files;
+ghost use Rattle.flex_model.specs.declared.fault.InputFile as FileType;
 ghost use Rattle.flex_model.specs.declared.feed.Feed as Feeds;
 ghost use Rattle.flex_model.specs.declared.place.Point as Places;
 ghost use Rattle.flex_model.specs.Times.{span_cmp};
@@ -85,7 +85,7 @@ pub(crate) fn spans_of(
 ) -> Result<Listed<Span>, NoMemory>
     requires { most < 2 ^ 32 }
     ensures { IfOk result (λ spans. (feed : Feeds.Feed) (points : List Values)
-        (file : Files.InputFile) → ArePlaceIds feed (map point_of points) ids.now
+        (file : FileType.InputFile) → ArePlaceIds feed (map point_of points) ids.now
         → AreAcceptedSpans feed points file most (entries_of table.now)
         → spans ≡ rising span_before (map (Value.span_of feed (map point_of points))
         (map (λ e. e.values) (entries_of table.now)))) }
