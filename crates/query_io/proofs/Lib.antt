@@ -4,4 +4,3 @@ mod PrintedRides
 pub mod NamedPlaces
 pub mod QueryMoments
 pub mod QueryRecords
-pub mod QuerySamples

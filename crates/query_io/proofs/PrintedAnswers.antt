@@ -1,8 +1,10 @@
 -- Exact answers have printed texts.
-use Rattle.std.proofs.Common.{◌≡◌, ◌≢◌, ℕ, ◌+◌, ◌-◌, ◌*◌, ◌^◌, ◌<◌, ◌≤◌, ℤ, pos, ◌+ℤ◌, ◌≤ℤ◌, List, [], Some, All, Contains, get_or, length, map, slice_get, sym, ◌∙◌, ap, subst, mul-le-mul_right, arith}
+use Rattle.std.proofs.Common.{◌≡◌, ◌≢◌, ℕ, ◌+◌, ◌-◌, ◌*◌, ◌^◌, ◌<◌, ◌≤◌, Bool, true, false, ℤ, pos, ◌+ℤ◌, ◌≤ℤ◌, List, [], Option, None, Some, All, Contains, get_or, length, map, slice_get, sym, ◌∙◌, ap, subst, mul-le-mul_right, arith}
+use Rattle.std.specs.Prelude.{if◌then◌else◌, is_some}
 use Rattle.std.specs.Option.{option_map}
 use Rattle.std.proofs.lemmas.Int.{ints}
 use Rattle.std.proofs.lemmas.List.{get_or_default}
+use Rattle.std.proofs.lemmas.List.Elements.{All-map}
 use Rattle.std.proofs.lemmas.Option.{get_or_from_slice_get, slice_get-map, slice_get_within}
 use Rattle.field_text.specs.Texts.{IsPrintableDay, IsPrintableMoment}
 use Rattle.flex_model.specs.declared.answer.Answer.{Answer}
@@ -19,16 +21,19 @@ use Rattle.flex_model.specs.declared.ride.Ride.{Ride}
 use Rattle.flex_model.specs.declared.times.Times.{Times}
 use Rattle.flex_model.specs.declared.trip.Spot.{Spot}
 use Rattle.flex_model.specs.declared.trip.Spot.TheVariants as spot
+use Rattle.flex_model.specs.declared.trip.Trip.{Trip}
+use Rattle.flex_model.specs.declared.answer.Triple.{Triple}
 use Rattle.flex_model.specs.Booking.{IsDeadline}
 use Rattle.flex_model.specs.Journey.{Attains, IsPermittedJourney, IsUsable, limit}
 use Rattle.flex_model.specs.Place.{Serves}
-use Rattle.flex_model.specs.Ride.{IsPermittedRide}
+use Rattle.flex_model.specs.Ride.{IsPermittedRide, StartsRightly}
 use Rattle.flex_model.specs.ServiceDay.{IsTravelDay}
 use Rattle.flex_model.specs.SoundFeed.{IsSoundFeed, IsSoundRow, IsSoundSpot, IsSoundTrip}
 use Rattle.flex_model.specs.SoundQuery.{IsSoundDayTable, IsSoundQuery}
 use Rattle.flex_model.specs.SoundTimes.{AreSoundTimes}
 use Rattle.flex_model.proofs.Bounds.{deadlines_in_time, few_answers, journeys_in_time}
 use Rattle.flex_model.proofs.Found.{All-at, index_of}
+use Rattle.flex_model.proofs.Walks.{short_walks, uncounted_nothing}
 use Rattle.query_io.specs.Printable.{IsPrintableAnswer, IsPrintableDeadline, IsPrintablePlace, IsPrintableRide}
 use Rattle.query_io.specs.PrintableAnswers.{ExactAnswersArePrintable}
 
@@ -46,10 +51,20 @@ travel_day_printed days day sound travel =
     record { low = omega (arith, ints); high = omega (arith, ints) }
 
 -- the answers are no more than fit a count
-few_enough : (transfers horizon answers : ℕ) → transfers ≤ 7 → horizon ≤ 2880 → answers ≤ (transfers + 1) * (60 * horizon + 1) → answers < 2 ^ 64
+few_enough : (transfers horizon answers : ℕ) → transfers ≤ 7 → horizon ≤ 2880
+    → answers ≤ (transfers + 1) * ((60 * horizon + 1) * (777600 + 1)) → answers < 2 ^ 64
 few_enough transfers horizon answers t h few =
-    let wide : (transfers + 1) * (60 * horizon + 1) ≤ 8 * (60 * horizon + 1) = mul-le-mul_right (60 * horizon + 1) (omega arith) in
+    let wide : (transfers + 1) * ((60 * horizon + 1) * (777600 + 1)) ≤ 8 * ((60 * horizon + 1) * (777600 + 1)) = mul-le-mul_right ((60 * horizon + 1) * (777600 + 1)) (omega arith) in
     omega arith
+
+-- a ride that starts rightly has a start just where frequencies.txt names its trip
+start_told : (trip : Trip) (start : Option ℕ) → StartsRightly trip start → is_some start ≡ trip.frequent
+start_told trip None never = sym never
+start_told trip (Some start) starts = sym starts.0
+
+counted_low : (walking : Bool) (seconds : ℕ) → (if walking then seconds else 0) ≤ seconds
+counted_low true seconds = omega arith
+counted_low false seconds = omega arith
 
 module _ (feed : Feed) (times : Times) (sound : IsSoundFeed feed) (sound_times : AreSoundTimes feed times) where
   stop_printed : (s : ℕ) (stop : Stop) → slice_get feed.stops s ≡ Some stop → IsPrintablePlace feed times (place.Stop s)
@@ -90,6 +105,7 @@ module _ (feed : Feed) (times : Times) (sound : IsSoundFeed feed) (sound_times :
           alight = served_printed permitted.alighting.spot ride.alight alighting.«spot» permitted.alights;
           departs = departs;
           arrives = arrives;
+          starts = start_told trip ride.start permitted.starts;
         }
 
     module _ (rides : List Ride) (journey : IsPermittedJourney feed times days query rides) where
@@ -114,7 +130,7 @@ module _ (feed : Feed) (times : Times) (sound : IsSoundFeed feed) (sound_times :
           let high : moment ≤ℤ ride.departs = by.1 in
           record { low = omega (arith, ints); high = omega (arith, ints) }
 
-    answer_printed : (answer : Answer) → Attains feed times days query answer.rides answer.triple → IsPrintableAnswer feed times answer
+    answer_printed : (answer : Answer) → Attains feed times days query answer.rides answer.triple → IsPrintableAnswer feed times query.walking answer
     answer_printed answer attains =
         let journey = attains.journey in
         let rides = answer.rides in
@@ -134,11 +150,24 @@ module _ (feed : Feed) (times : Times) (sound : IsSoundFeed feed) (sound_times :
           few = omega arith;
           count = sym count;
           rides = λ k d within. journey_ride_printed rides journey (get_or rides k d) (k, within, get_or_default rides k (get_or rides k d) d within);
+          walk = λ asks. (uncounted_nothing feed times days query rides asks).0 answer.triple attains;
         }
+
+    -- up to 8 rides and an egress take no more than 9 days on foot
+    walk_short : (answer : Answer) → Attains feed times days query answer.rides answer.triple → answer.triple.walk ≤ 777600
+    walk_short answer attains =
+        let few : length answer.rides ≤ query.transfers + 1 = attains.journey.itinerary.few in
+        let asked = sound_query.transfers in
+        let short = (short_walks feed times days query sound sound_times).0 answer.rides answer.triple attains in
+        let low = counted_low query.walking (86400 * (length answer.rides + 1)) in
+        omega arith
 
 pub exact_printable : ExactAnswersArePrintable
 exact_printable feed times days query answers sound sound_times sound_days sound_query exact = record {
   id = sound_query.id;
-  count = few_enough query.transfers query.horizon (length answers) sound_query.transfers sound_query.horizon (few_answers feed times days query answers sound exact);
+  count = few_enough query.transfers query.horizon (length answers) sound_query.transfers sound_query.horizon
+      (few_answers feed times days query answers 777600 sound exact
+      (All-map (λ (triple : Triple). triple.walk ≤ 777600) (λ (answer : Answer). answer.triple) answers
+      (λ k d within. walk_short feed times sound sound_times days query sound_days sound_query (get_or answers k d) (exact.attained k d within))));
   each = λ k d within. answer_printed feed times sound sound_times days query sound_days sound_query (get_or answers k d) (exact.attained k d within);
 }

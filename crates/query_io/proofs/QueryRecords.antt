@@ -1,5 +1,5 @@
 -- The records of a query file, their rules and their queries.
-use Rattle.std.proofs.Common.{◌≡◌, ◌≢◌, ℕ, ◌<◌, true, false, not, List, [], ◌∷◌, ◌++◌, All, Option, None, Some, map, get_or, length, nat_lt, ℤ, pos, refl, sym, ◌∙◌, ap, subst, arith, lit<}
+use Rattle.std.proofs.Common.{◌≡◌, ◌≢◌, ℕ, ◌<◌, Bool, true, false, not, List, [], ◌∷◌, ◌++◌, All, Option, None, Some, map, get_or, length, nat_lt, ℤ, pos, refl, sym, ◌∙◌, ap, subst, arith, lit<}
 use Rattle.std.specs.Prelude.{◌==◌, is_none, unwrap_or, Result, Ok, Err}
 use Rattle.std.specs.Option.{option_to_list}
 use Rattle.std.specs.Result.{result_err, result_ok}
@@ -17,11 +17,11 @@ use Rattle.flex_model.specs.declared.query.Query.{Query}
 use Rattle.flex_model.specs.declared.times.Times.{Times}
 use Rattle.flex_model.specs.SoundFeed.{IsSoundFeed}
 use Rattle.flex_model.specs.SoundQuery.{IsSoundQuery}
-use Rattle.field_text.specs.Grammars.{count, moment, number}
+use Rattle.field_text.specs.Grammars.{choice, count, moment, number, some_if}
 use Rattle.feed_tables.specs.Records.{RowFields, table_records}
 use Rattle.feed_meaning.specs.FeedRules.{is_positive_count}
 use Rattle.feed_meaning.specs.QueryFaults.{place_rule, queries_schema, query_faults, query_rules}
-use Rattle.feed_meaning.specs.Rules.{Rule, Values, is_no, stand}
+use Rattle.feed_meaning.specs.Rules.{Rule, Values, is_bad, is_no, is_text, stand}
 use Rattle.feed_meaning.specs.Tables.{entries_of, entry_of, faults_at, missing_faults, record_faults, schema_faults, table_faults, values_of}
 use Rattle.feed_meaning.specs.TimesValue.{moment_in, place_named, queries_of, query_of}
 use Rattle.feed_meaning.proofs.FieldBounds.{count_is}
@@ -41,6 +41,15 @@ some_there : {X : Type 0} (o : Option X) (d : X) → is_none o ≡ false → o �
 some_there None d e = absurd (true≢false e)
 some_there (Some x) d e = refl
 
+-- a value that is there unless a text is bad
+pub none_if_bad : {X : Type 0} (bad : Bool) (x : X) → is_none (some_if (not bad) x) ≡ bad
+none_if_bad true x = refl
+none_if_bad false x = refl
+
+some_if_good : {X : Type 0} (bad : Bool) (x : X) → bad ≡ false → some_if (not bad) x ≡ Some x
+some_if_good true x e = absurd (true≢false e)
+some_if_good false x e = refl
+
 count_there : (greatest : ℕ) (text : List ℕ) (o : Option ℕ) → count greatest text ≡ o → is_none o ≡ false → o ≡ Some (number text)
 count_there greatest text None is e = absurd (true≢false e)
 count_there greatest text (Some n) is e = ap Some (sym (count_is greatest text n is).1)
@@ -49,9 +58,10 @@ positive_there : (greatest : ℕ) (text : List ℕ) (o : Option ℕ) → count g
 positive_there greatest text None is e = absurd (true≢false e)
 positive_there greatest text (Some n) is e = ap Some (sym (count_is greatest text n is).1)
 
-pub same_eight : (a b c d e f g h a' b' c' d' e' f' g' h' : Rule) → a ≡ a' → b ≡ b' → c ≡ c' → d ≡ d' → e ≡ e' → f ≡ f' → g ≡ g' → h ≡ h'
-    → (a ∷ b ∷ c ∷ d ∷ e ∷ f ∷ g ∷ h ∷ []) ≡ (a' ∷ b' ∷ c' ∷ d' ∷ e' ∷ f' ∷ g' ∷ h' ∷ [])
-same_eight a b c d e f g h a' b' c' d' e' f' g' h' ha hb hc hd he hf hg hh = cc
+pub same_nine : (a b c d e f g h i a' b' c' d' e' f' g' h' i' : Rule)
+    → a ≡ a' → b ≡ b' → c ≡ c' → d ≡ d' → e ≡ e' → f ≡ f' → g ≡ g' → h ≡ h' → i ≡ i'
+    → (a ∷ b ∷ c ∷ d ∷ e ∷ f ∷ g ∷ h ∷ i ∷ []) ≡ (a' ∷ b' ∷ c' ∷ d' ∷ e' ∷ f' ∷ g' ∷ h' ∷ i' ∷ [])
+same_nine a b c d e f g h i a' b' c' d' e' f' g' h' i' ha hb hc hd he hf hg hh hi = cc
 
 module _ (feed : Feed) (times : Times) where
   -- the fault of a place is its rule
@@ -68,7 +78,7 @@ module _ (feed : Feed) (times : Times) where
 
   -- the query of a record that breaks no rule
   pub record_gives : (earlier : List Values) (r : Values) (fields : QueryFields) → HasFields feed times r fields
-      → ((k : ℕ) → k < 8 → get_or (query_rules feed times earlier r) k None ≡ None) → query_from fields ≡ Some (query_of feed times r)
+      → ((k : ℕ) → k < 9 → get_or (query_rules feed times earlier r) k None ≡ None) → query_from fields ≡ Some (query_of feed times r)
   record_gives earlier r fields has kept =
       let origin = place_there (r "origin") fields.origin has.origin (kept 2 (lit< tt)) in
       let destination = place_there (r "destination") fields.destination has.destination (kept 3 (lit< tt)) in
@@ -76,20 +86,22 @@ module _ (feed : Feed) (times : Times) where
       let asked = has.asked ∙ some_there (moment 1990 2199 (r "now")) (pos 0) (is_kept code.BadMoment (is_no (moment 1990 2199) (r "now")) (kept 5 (lit< tt))) in
       let transfers = has.transfers ∙ count_there 7 (r "transfers") (count 7 (r "transfers")) refl (is_kept code.BadNumber (is_no (count 7) (r "transfers")) (kept 6 (lit< tt))) in
       let horizon = has.horizon ∙ positive_there 2880 (r "horizon") (count 2880 (r "horizon")) refl (is_kept code.BadNumber (not (is_positive_count 2880 (r "horizon"))) (kept 7 (lit< tt))) in
-      same (r "query_id") (place_named feed times.points (r "origin")) (place_named feed times.points (r "destination")) (moment_in (r "depart")) (moment_in (r "now")) (number (r "transfers")) (number (r "horizon"))
-      fields has.id origin destination depart asked transfers horizon
+      let walking = has.walking ∙ some_if_good (is_bad (choice 0 1) (r "walking")) (is_text (r "walking") "1") (is_kept code.BadEnum (is_bad (choice 0 1) (r "walking")) (kept 8 (lit< tt))) in
+      same (r "query_id") (place_named feed times.points (r "origin")) (place_named feed times.points (r "destination")) (moment_in (r "depart")) (moment_in (r "now")) (number (r "transfers")) (number (r "horizon")) (is_text (r "walking") "1")
+      fields has.id origin destination depart asked transfers horizon walking
     where
-      same : (id : List ℕ) (o d : Place) (m n : ℤ) (t h : ℕ) (f : QueryFields) → f.id.now ≡ id → result_ok f.origin ≡ Some o → result_ok f.destination ≡ Some d
-          → f.depart ≡ Some m → f.asked ≡ Some n → f.transfers ≡ Some t → f.horizon ≡ Some h
-          → query_from f ≡ Some (record { id = id; origin = o; destination = d; depart = m; now = n; transfers = t; horizon = h })
-      same id o d m n t h f hi ho hd hm hn ht hh =
-          ap (λ x. query_by x (result_ok f.origin) (result_ok f.destination) f.depart f.asked f.transfers f.horizon) hi
-          ∙ ap (λ x. query_by id x (result_ok f.destination) f.depart f.asked f.transfers f.horizon) ho
-          ∙ ap (λ x. query_by id (Some o) x f.depart f.asked f.transfers f.horizon) hd
-          ∙ ap (λ x. query_by id (Some o) (Some d) x f.asked f.transfers f.horizon) hm
-          ∙ ap (λ x. query_by id (Some o) (Some d) (Some m) x f.transfers f.horizon) hn
-          ∙ ap (λ x. query_by id (Some o) (Some d) (Some m) (Some n) x f.horizon) ht
-          ∙ ap (λ x. query_by id (Some o) (Some d) (Some m) (Some n) (Some t) x) hh
+      same : (id : List ℕ) (o d : Place) (m n : ℤ) (t h : ℕ) (w : Bool) (f : QueryFields) → f.id.now ≡ id → result_ok f.origin ≡ Some o → result_ok f.destination ≡ Some d
+          → f.depart ≡ Some m → f.asked ≡ Some n → f.transfers ≡ Some t → f.horizon ≡ Some h → f.walking ≡ Some w
+          → query_from f ≡ Some (record { id = id; origin = o; destination = d; depart = m; now = n; transfers = t; horizon = h; walking = w })
+      same id o d m n t h w f hi ho hd hm hn ht hh hw =
+          ap (λ x. query_by x (result_ok f.origin) (result_ok f.destination) f.depart f.asked f.transfers f.horizon f.walking) hi
+          ∙ ap (λ x. query_by id x (result_ok f.destination) f.depart f.asked f.transfers f.horizon f.walking) ho
+          ∙ ap (λ x. query_by id (Some o) x f.depart f.asked f.transfers f.horizon f.walking) hd
+          ∙ ap (λ x. query_by id (Some o) (Some d) x f.asked f.transfers f.horizon f.walking) hm
+          ∙ ap (λ x. query_by id (Some o) (Some d) (Some m) x f.transfers f.horizon f.walking) hn
+          ∙ ap (λ x. query_by id (Some o) (Some d) (Some m) (Some n) x f.horizon f.walking) ht
+          ∙ ap (λ x. query_by id (Some o) (Some d) (Some m) (Some n) (Some t) x f.walking) hh
+          ∙ ap (λ x. query_by id (Some o) (Some d) (Some m) (Some n) (Some t) (Some h) x) hw
 
   -- ---- one more record
 

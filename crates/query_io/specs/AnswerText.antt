@@ -1,9 +1,10 @@
--- The text of an answer: lines of words, this project's own format. Ids stand in their escaped form, dates as YYYYMMDD,
--- moments as YYYY-MM-DDTHH:MM:SSZ, numbers in decimal digits.
-use Rattle.std.specs.Prelude.{ℕ, List, [], ◌∷◌, ◌++◌, length, slice_get, codes, decimal}
+-- The text of an answer: lines of words, this project's own format. Ids stand in their escaped
+-- form, dates as YYYYMMDD, moments as YYYY-MM-DDTHH:MM:SSZ, numbers in decimal digits.
+use Rattle.std.specs.Prelude.{ℕ, Bool, if◌then◌else◌, List, [], ◌∷◌, ◌++◌, Option, None, Some, length, slice_get, codes, decimal}
 use Rattle.std.specs.List.{flat_map, join_with_byte}
 use Rattle.std.specs.Option.{option_map_or}
 use Rattle.flex_model.specs.declared.answer.Answer.{Answer}
+use Rattle.flex_model.specs.declared.answer.Triple.{Triple}
 use Rattle.flex_model.specs.declared.feed.Feed.{Feed}
 use Rattle.flex_model.specs.declared.moment.Deadline.{Deadline}
 use Rattle.flex_model.specs.declared.moment.Deadline.TheVariants.{At, Never}
@@ -20,36 +21,64 @@ use Rattle.field_text.specs.Texts.{date_text, moment_text}
 abbrev pub line : List (List ℕ) → List ℕ
 line words = join_with_byte 32 words ++ 10 ∷ []
 
+-- a last word that stands only where it is wanted
+abbrev pub word_if : Bool → List ℕ → List (List ℕ)
+word_if wanted word = if wanted then word ∷ [] else []
+
 abbrev pub deadline_text : Deadline → List ℕ
 deadline_text (At moment) = moment_text moment
 deadline_text Never = codes "never"
 
 -- the escaped id of a stop or a point
 abbrev pub place_text : Feed → Times → Place → List ℕ
-place_text feed times (Stop s) = escape (option_map_or (λ stop. stop.id) (slice_get feed.stops s) [])
-place_text feed times (Point p) = escape (option_map_or (λ point. point.id) (slice_get times.points p) [])
+place_text feed times (Stop s) =
+    escape (option_map_or (λ stop. stop.id) (slice_get feed.stops s) [])
+place_text feed times (Point p) =
+    escape (option_map_or (λ point. point.id) (slice_get times.points p) [])
 
 -- the stop_sequence of a trip's record
 abbrev pub sequence_text : Trip → ℕ → List ℕ
 sequence_text trip r = decimal (option_map_or (λ row. row.sequence) (slice_get trip.rows r) 0)
 
--- ride TRIP DATE FROM TO PLACE PLACE DEPARTS ARRIVES: the service day, and the stop_sequence of both records
+-- the start of a ride on a trip that frequencies.txt names, and no word of any other
+abbrev pub start_words : Option ℕ → List (List ℕ)
+start_words None = []
+start_words (Some start) = decimal start ∷ []
+
+-- ride TRIP DATE FROM TO PLACE PLACE DEPARTS ARRIVES, and START where the ride has a start: the
+-- service day, the stop_sequence of both records, and the seconds of the service day at which the
+-- trip starts
 abbrev pub words_on_trip : Feed → Times → Ride → Trip → List (List ℕ)
 words_on_trip feed times ride trip =
-    codes "ride" ∷ escape trip.id ∷ date_text ride.day ∷ sequence_text trip ride.from_row ∷ sequence_text trip ride.to_row
-    ∷ place_text feed times ride.board ∷ place_text feed times ride.alight ∷ moment_text ride.departs
-    ∷ moment_text ride.arrives ∷ []
+    codes "ride" ∷ escape trip.id ∷ date_text ride.day
+    ∷ sequence_text trip ride.from_row ∷ sequence_text trip ride.to_row
+    ∷ place_text feed times ride.board ∷ place_text feed times ride.alight
+    ∷ moment_text ride.departs ∷ moment_text ride.arrives
+    ∷ start_words ride.start
 
 abbrev pub ride_line : Feed → Times → Ride → List ℕ
-ride_line feed times ride = option_map_or (λ trip. line (words_on_trip feed times ride trip)) (slice_get feed.trips ride.trip) []
+ride_line feed times ride =
+    option_map_or (λ trip. line (words_on_trip feed times ride trip))
+    (slice_get feed.trips ride.trip) []
 
--- journey DEADLINE ARRIVAL TRANSFERS, and a line for each ride
-abbrev pub journey_lines : Feed → Times → Answer → List ℕ
-journey_lines feed times answer =
-    line (codes "journey" ∷ deadline_text answer.triple.deadline ∷ moment_text answer.triple.arrival ∷ decimal answer.triple.transfers ∷ [])
-    ++ flat_map (ride_line feed times) answer.rides
+-- journey DEADLINE ARRIVAL TRANSFERS, and WALK for a query that asks for walking
+abbrev pub journey_line : Bool → Triple → List ℕ
+journey_line walking triple =
+    line (codes "journey" ∷ deadline_text triple.deadline ∷ moment_text triple.arrival
+    ∷ decimal triple.transfers ∷ word_if walking (decimal triple.walk))
 
--- query ID COUNT, and the lines of each journey
+-- the line of a journey, and a line for each ride
+abbrev pub journey_lines : Feed → Times → Bool → Answer → List ℕ
+journey_lines feed times walking answer =
+    journey_line walking answer.triple ++ flat_map (ride_line feed times) answer.rides
+
+-- query ID COUNT, and the word walking where the query asks for walking
+abbrev pub query_line : Query → ℕ → List ℕ
+query_line query count =
+    line (codes "query" ∷ escape query.id ∷ decimal count
+    ∷ word_if query.walking (codes "walking"))
+
+-- the line of the query, and the lines of each journey
 unfoldable pub answer_text : Feed → Times → Query → List Answer → List ℕ
 answer_text feed times query answers =
-    line (codes "query" ∷ escape query.id ∷ decimal (length answers) ∷ []) ++ flat_map (journey_lines feed times) answers
+    query_line query (length answers) ++ flat_map (journey_lines feed times query.walking) answers

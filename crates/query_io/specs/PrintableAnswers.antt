@@ -13,6 +13,8 @@ use Rattle.query_io.specs.Printable.{IsPrintable}
 
 -- Over sound values, every exact answer to a query has a printed text.
 abbrev pub ExactAnswersArePrintable : Type 0
-ExactAnswersArePrintable = (feed : Feed) (times : Times) (days : DayTable) (query : Query) (answers : List Answer)
-    → IsSoundFeed feed → AreSoundTimes feed times → IsSoundDayTable days → IsSoundQuery feed times query
+ExactAnswersArePrintable =
+    (feed : Feed) (times : Times) (days : DayTable) (query : Query) (answers : List Answer)
+    → IsSoundFeed feed → AreSoundTimes feed times → IsSoundDayTable days
+    → IsSoundQuery feed times query
     → IsExactAnswer feed times days query answers → IsPrintable feed times query answers

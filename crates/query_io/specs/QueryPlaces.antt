@@ -18,5 +18,6 @@ pub record ArePlaceIds (feed : Feed) (times : Times) (ids : PlaceIds) : Type 0 w
 
 -- the place that a text names, or its fault
 abbrev pub IsPlaceRead : Feed → Times → List ℕ → Result Place FaultCode → Type 0
-IsPlaceRead feed times text (Ok place) = (place_rule feed times text ≡ None) × (place ≡ place_named feed times.points text)
+IsPlaceRead feed times text (Ok place) =
+    (place_rule feed times text ≡ None) × (place ≡ place_named feed times.points text)
 IsPlaceRead feed times text (Err code) = place_rule feed times text ≡ Some code

@@ -18,5 +18,8 @@ HoldsQueries faults queries (Faulty read) = (faults ≢ []) × (read ≡ faults)
 
 -- A query file without faults gives its queries, all of them sound. Another gives its faults.
 abbrev pub AreRead : Feed → Times → RawFile → ReadQueries → Type 0
-AreRead feed times raw (Clean read) = (query_faults feed times raw ≡ []) × (read ≡ queries_of feed times raw) × All (IsSoundQuery feed times) read
-AreRead feed times raw (Faulty read) = (query_faults feed times raw ≢ []) × (read ≡ query_faults feed times raw)
+AreRead feed times raw (Clean read) =
+    (query_faults feed times raw ≡ []) × (read ≡ queries_of feed times raw)
+    × All (IsSoundQuery feed times) read
+AreRead feed times raw (Faulty read) =
+    (query_faults feed times raw ≢ []) × (read ≡ query_faults feed times raw)

@@ -1,8 +1,9 @@
-ghost use Rattle.query_io.specs.PrintableAnswers.{ExactAnswersArePrintable};
-
 // Laws of the definitions alone: each function has an empty body, and its contract is the law.
 
-/// Every exact answer to a sound query over a sound feed, sound times and a sound day table has a printed text.
+ghost use Rattle.query_io.specs.PrintableAnswers.{ExactAnswersArePrintable};
+
+/// Every exact answer to a sound query over a sound feed, sound times and a sound day table has a
+/// printed text.
 pub fn exact_answers_are_printable()
     ensures { ExactAnswersArePrintable }
 {}

@@ -1,7 +1,11 @@
-ghost use Rattle.std.specs.Prelude.{◌≡◌, ◌≢◌, ◌<◌, ◌++◌, [], OnErr, OnOk, Some, decimal, length, slice_get};
+// Writing the line of a ride.
+
+ghost use Rattle.std.specs.Prelude.{◌≡◌, ◌≢◌, ◌<◌, ◌++◌, [], IfSome, OnErr, OnOk, Some, decimal, length, map, slice_get};
+ghost use Rattle.std.specs.Option.{option_to_list};
 ghost use Rattle.field_text.specs.Grammars.{escape};
-ghost use Rattle.query_io.specs.AnswerText.{line, place_text, ride_line, sequence_text, words_on_trip};
+ghost use Rattle.query_io.specs.AnswerText.{line, place_text, ride_line, sequence_text, start_words, words_on_trip};
 ghost use Rattle.query_io.specs.Printable.{IsPrintablePlace, IsPrintableRide};
+ghost use Rattle.query_io.specs.Word.{IsPrintableWord, word_text};
 
 use crate::word::{Word, write_line};
 use flex_model::{Feed, NoMemory, Place, Ride, Text, Times, Trip};
@@ -26,6 +30,17 @@ fn sequence(trip: &Trip, row: u32) -> u64
     u64::from(trip.rows.as_slice()[row as usize].sequence)
 }
 
+// The start of a ride, where it has one.
+fn start_word(start: Option<u32>) -> Option<Word<'static>>
+    ensures printable { IfSome result IsPrintableWord }
+    ensures text { map word_text (option_to_list result) ≡ start_words start }
+{
+    match start {
+        Some(start) => Some(Word::Number(u64::from(start))),
+        None => None,
+    }
+}
+
 // Appends the line of a ride on a trip.
 fn write_on_trip<'a>(
     feed: &'a Feed,
@@ -36,7 +51,8 @@ fn write_on_trip<'a>(
 ) -> Result<(), NoMemory>
     requires printable { IsPrintableRide feed.now times.now ride.now }
     requires of_trip { slice_get feed.now.trips ride.now.trip ≡ Some trip.now }
-    ensures ok { OnOk result (into.new ≡ into.old ++ line (words_on_trip feed.now times.now ride.now trip.now)) }
+    ensures ok { OnOk result
+        (into.new ≡ into.old ++ line (words_on_trip feed.now times.now ride.now trip.now)) }
     ensures err { OnErr result (into.new ≡ into.old) }
 {
     let words = [
@@ -49,7 +65,7 @@ fn write_on_trip<'a>(
         Word::At(ride.departs),
         Word::At(ride.arrives),
     ];
-    write_line("ride", &words, into)
+    write_line("ride", &words, start_word(ride.start), into)
 }
 
 // Appends the line of a ride.

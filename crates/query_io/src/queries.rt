@@ -55,7 +55,8 @@ fn read_table(
 ) -> Result<ReadQueries, NoMemory>
     requires feed { IsSoundFeed feed.now }
     requires times { AreSoundTimes feed.now times.now }
-    ensures { IfOk result (HoldsQueries (accepted_faults Files.Queries (queries_schema feed.now times.now) None table.now)
+    ensures { IfOk result (HoldsQueries
+        (accepted_faults Files.Queries (queries_schema feed.now times.now) None table.now)
         (map (λ e. query_of feed.now times.now e.values) (entries_of table.now))) }
 {
     let mut faults = Listed::new(alloc);
@@ -76,7 +77,8 @@ fn read_bytes(
     requires feed { IsSoundFeed feed.now }
     requires times { AreSoundTimes feed.now times.now }
     requires few { length bytes.now < 2 ^ 32 }
-    ensures { IfOk result (HoldsQueries (table_faults Files.Queries (queries_schema feed.now times.now) (table_records bytes.now))
+    ensures { IfOk result (HoldsQueries
+        (table_faults Files.Queries (queries_schema feed.now times.now) (table_records bytes.now))
         (map (λ e. query_of feed.now times.now e.values) (entries_of (table_records bytes.now)))) }
 {
     match Table::read(alloc, bytes) {
@@ -88,8 +90,9 @@ fn read_bytes(
     }
 }
 
-/// Reads a query file of fewer than 2^32 bytes beside an accepted feed and accepted times: its queries where it has no
-/// fault, and else all its faults. Its records are read in one pass, and places are found by their ids.
+/// Reads a query file of fewer than 2^32 bytes beside an accepted feed and accepted times: its
+/// queries where it has no fault, and else all its faults. Its records are read in one pass, and
+/// places are found by their ids.
 pub fn read_queries(
     alloc: Global,
     raw: &RawFile,

@@ -6,12 +6,12 @@ ghost use Rattle.feed_meaning.specs.Tables.{values_of};
 ghost use Rattle.field_text.specs.Grammars;
 ghost use Rattle.flex_model.specs.declared.feed.Feed as Feeds;
 ghost use Rattle.flex_model.specs.declared.times.Times as Spans;
-ghost use Rattle.query_io.specs.QueryFields.{HasFields};
+ghost use Rattle.query_io.specs.QueryFields.{HasFields, walking_asked};
 ghost use Rattle.query_io.specs.QueryFields as Words;
 ghost use Rattle.query_io.specs.QueryPlaces.{ArePlaceIds};
 
 use crate::query_places::{PlaceIds, read_place};
-use feed_meaning::value;
+use feed_meaning::{is_empty, is_text, value};
 use feed_tables::{RowView, Table};
 use field_text::{read_count, read_moment};
 use flex_model::{FaultCode, Moment, Place};
@@ -37,6 +37,7 @@ pub(crate) struct QueryColumns {
     pub(crate) asked: Option<u32>,
     pub(crate) transfers: Option<u32>,
     pub(crate) horizon: Option<u32>,
+    pub(crate) walking: Option<u32>,
 }
 
 /// The values of a record: each is there where its text is of its kind.
@@ -49,6 +50,7 @@ pub(crate) struct QueryFields<'a> {
     pub(crate) asked: Option<Moment>,
     pub(crate) transfers: Option<u8>,
     pub(crate) horizon: Option<u32>,
+    pub(crate) walking: Option<bool>,
 }
 
 /// The columns of a query file.
@@ -63,6 +65,7 @@ pub(crate) fn query_columns(table: &Table) -> QueryColumns
         asked: table.column("now"),
         transfers: table.column("transfers"),
         horizon: table.column("horizon"),
+        walking: table.column("walking"),
     }
 }
 
@@ -99,14 +102,28 @@ fn horizon(text: &str) -> Option<u32>
     }
 }
 
+// Whether a text asks for walking, if it says so or not.
+fn walking(text: &str) -> Option<bool>
+    ensures { result ≡ walking_asked text.now }
+{
+    if is_text(text, "1") {
+        return Some(true);
+    }
+    if is_empty(text) || is_text(text, "0") {
+        return Some(false);
+    }
+    None
+}
+
 /// The values of a record.
 pub(crate) fn read_fields<'a>(
     ids: &PlaceIds<'_>,
     columns: &QueryColumns,
     row: &RowView<'a>,
 ) -> QueryFields<'a>
-    ensures { (feed : Feeds.Feed) (times : Spans.Times) (header : List (List ℕ)) → ArePlaceIds feed times ids.now
-        → columns.now ≡ Words.query_columns header → HasFields feed times (values_of header row.now.fields) result }
+    ensures { (feed : Feeds.Feed) (times : Spans.Times) (header : List (List ℕ))
+        → ArePlaceIds feed times ids.now → columns.now ≡ Words.query_columns header
+        → HasFields feed times (values_of header row.now.fields) result }
 {
     let id = value(row, columns.id);
     let origin = read_place(ids, value(row, columns.origin));
@@ -115,6 +132,7 @@ pub(crate) fn read_fields<'a>(
     let asked = moment(value(row, columns.asked));
     let transfers = transfers(value(row, columns.transfers));
     let horizon = horizon(value(row, columns.horizon));
+    let walking = walking(value(row, columns.walking));
     QueryFields {
         id,
         origin,
@@ -123,5 +141,6 @@ pub(crate) fn read_fields<'a>(
         asked,
         transfers,
         horizon,
+        walking,
     }
 }

@@ -74,7 +74,8 @@ fn boards_at(feed: &Feed, stop: u32) -> bool
 
 /// The stop or the point with this id, or the fault of a text that names no place of a query.
 pub(crate) fn read_place(ids: &PlaceIds<'_>, text: &str) -> Result<Place, FaultCode>
-    ensures { (feed : Feeds.Feed) (times : Spans.Times) → ArePlaceIds feed times ids.now → IsPlaceRead feed times text.now result }
+    ensures { (feed : Feeds.Feed) (times : Spans.Times)
+        → ArePlaceIds feed times ids.now → IsPlaceRead feed times text.now result }
 {
     if is_empty(text) {
         return Err(FaultCode::EmptyField);

@@ -52,9 +52,10 @@ fn place_fault(place: Result<Place, FaultCode>) -> Option<FaultCode>
 }
 
 // The rules of a query.
-fn query_rules(fields: &QueryFields<'_>, is_repeated: bool) -> [Option<FaultCode>; 8]
-    ensures { (feed : Feeds.Feed) (times : Spans.Times) (earlier : List Values) (r : Values) → HasFields feed times r fields.now
-        → is_repeated ≡ repeats_id "query_id" earlier r → result ≡ QueryFaults.query_rules feed times earlier r }
+fn query_rules(fields: &QueryFields<'_>, is_repeated: bool) -> [Option<FaultCode>; 9]
+    ensures { (feed : Feeds.Feed) (times : Spans.Times) (earlier : List Values) (r : Values)
+        → HasFields feed times r fields.now → is_repeated ≡ repeats_id "query_id" earlier r
+        → result ≡ QueryFaults.query_rules feed times earlier r }
 {
     [
         rule(FaultCode::EmptyField, is_empty(fields.id)),
@@ -65,6 +66,7 @@ fn query_rules(fields: &QueryFields<'_>, is_repeated: bool) -> [Option<FaultCode
         rule(FaultCode::BadMoment, is_no(fields.asked)),
         rule(FaultCode::BadNumber, is_no(fields.transfers)),
         rule(FaultCode::BadNumber, !is_positive(fields.horizon)),
+        rule(FaultCode::BadEnum, is_no(fields.walking)),
     ]
 }
 
@@ -81,6 +83,9 @@ fn query_from(alloc: Global, fields: &QueryFields<'_>) -> Result<Option<Query>, 
     let (Some(transfers), Some(horizon)) = (fields.transfers, fields.horizon) else {
         return Ok(None);
     };
+    let Some(walking) = fields.walking else {
+        return Ok(None);
+    };
     let mut id = Text::new(alloc);
     id.append(fields.id)?;
     Ok(Some(Query {
@@ -91,6 +96,7 @@ fn query_from(alloc: Global, fields: &QueryFields<'_>) -> Result<Option<Query>, 
         now,
         transfers,
         horizon,
+        walking,
     }))
 }
 
@@ -124,7 +130,9 @@ pub(crate) fn read_records(
 ) -> Result<ReadQueries, NoMemory>
     requires feed { IsSoundFeed feed.now }
     requires times { AreSoundTimes feed.now times.now }
-    ensures { IfOk result (HoldsQueries (record_faults Files.Queries (QueryFaults.query_rules feed.now times.now) (entries_of table.now))
+    ensures { IfOk result (HoldsQueries
+        (record_faults Files.Queries (QueryFaults.query_rules feed.now times.now)
+        (entries_of table.now))
         (map (λ e. query_of feed.now times.now e.values) (entries_of table.now))) }
 {
     let ids = place_ids(alloc, feed, times)?;

@@ -1,5 +1,9 @@
-ghost use Rattle.std.specs.Prelude.{◌≡◌, ◌∷◌, ◌++◌, All, OnErr, OnOk, map};
+// The words of printed lines.
+
+ghost use Rattle.std.specs.Prelude.{◌≡◌, ◌∷◌, ◌++◌, All, IfSome, OnErr, OnOk, map};
 ghost use Rattle.std.specs.List.{flat_map};
+ghost use Rattle.std.specs.Option.{option_to_list};
+ghost use Rattle.query_io.specs.AnswerText as Lines;
 ghost use Rattle.query_io.specs.AnswerText.{deadline_text, line};
 ghost use Rattle.query_io.specs.Printable.{IsPrintableDeadline};
 ghost use Rattle.query_io.specs.Word.{IsPrintableWord, spaced, word_text};
@@ -12,6 +16,8 @@ use flex_model::{Deadline, Moment, NoMemory, Text};
 pub(crate) enum Word<'a> {
     // an id, which is escaped
     Id(&'a str),
+    // a text as it stands
+    Plain(&'a str),
     // a day, in days since 1970-01-01
     Day(i32),
     At(Moment),
@@ -39,6 +45,7 @@ fn write_word(word: &Word<'_>, into: &mut Text) -> Result<(), NoMemory>
 {
     match *word {
         Word::Id(id) => escape_id(id, into),
+        Word::Plain(text) => into.append(text),
         Word::Day(day) => write_date(day, into),
         Word::At(moment) => write_moment(moment, into),
         Word::Until(deadline) => write_deadline(deadline, into),
@@ -77,15 +84,47 @@ fn write_words(words: &[Word<'_>], into: &mut Text) -> Result<(), NoMemory>
     Ok(())
 }
 
-// Appends a line: what it tells, and its further words.
-pub(crate) fn write_line(kind: &str, words: &[Word<'_>], into: &mut Text) -> Result<(), NoMemory>
-    requires { All IsPrintableWord words.now }
-    ensures ok { OnOk result (into.new ≡ into.old ++ line (kind.now ∷ map word_text words.now)) }
+// A word, where it is wanted.
+pub(crate) fn word_if<'a>(wanted: bool, word: Word<'a>) -> Option<Word<'a>>
+    requires { IsPrintableWord word }
+    ensures printable { IfSome result IsPrintableWord }
+    ensures text { map word_text (option_to_list result)
+        ≡ Lines.word_if wanted (word_text word.entry) }
+{
+    if wanted { Some(word) } else { None }
+}
+
+// Appends a word after a space, if there is one.
+fn write_last(word: Option<Word<'_>>, into: &mut Text) -> Result<(), NoMemory>
+    requires { IfSome word IsPrintableWord }
+    ensures ok { OnOk result (into.new ≡ into.old ++ flat_map spaced (option_to_list word.entry)) }
+    ensures err { OnErr result (into.new ≡ into.old) }
+{
+    match word {
+        Some(word) => write_spaced(&word, into),
+        None => Ok(()),
+    }
+}
+
+// Appends a line: what it tells, its further words, and a last one that not every line has.
+pub(crate) fn write_line(
+    kind: &str,
+    words: &[Word<'_>],
+    last: Option<Word<'_>>,
+    into: &mut Text,
+) -> Result<(), NoMemory>
+    requires words { All IsPrintableWord words.now }
+    requires last { IfSome last IsPrintableWord }
+    ensures ok { OnOk result (into.new ≡ into.old
+        ++ line (kind.now ∷ map word_text (words.now ++ option_to_list last.entry))) }
     ensures err { OnErr result (into.new ≡ into.old) }
 {
     let old_len = into.as_str().len();
     into.append(kind)?;
-    if write_words(words, into).is_err() || into.append("\n").is_err() {
+    if write_words(words, into).is_err()
+        || write_last(last, into).is_err()
+        || into.append("\n").is_err()
+    {
         into.cut(old_len);
         return Err(NoMemory);
     }

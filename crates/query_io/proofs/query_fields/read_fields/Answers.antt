@@ -4,7 +4,7 @@ use Rattle.std.specs.Option.{option_map_or}
 use Rattle.feed_tables.specs.Fields.{value_at}
 use Rattle.feed_meaning.specs.Tables.{values_of}
 use Rattle.field_text.specs.Grammars.{count, moment}
-use Rattle.query_io.specs.QueryFields.{column_named}
+use Rattle.query_io.specs.QueryFields.{column_named, walking_asked}
 use Rattle.query_io.specs.QueryPlaces.{IsPlaceRead}
 use Rattle.query_io.proofs.query_fields.read_fields.Goals as goal
 use Prim.Native.String.{String}
@@ -23,6 +23,7 @@ returns c = λ feed times header are columns.
     let asked = text_is header fields "now" c.args.columns.now.asked c.value-4.result.now c.value-4.ensures (ap (λ q. q.asked) columns) in
     let transfers = text_is header fields "transfers" c.args.columns.now.transfers c.value-5.result.now c.value-5.ensures (ap (λ q. q.transfers) columns) in
     let horizon = text_is header fields "horizon" c.args.columns.now.horizon c.value-6.result.now c.value-6.ensures (ap (λ q. q.horizon) columns) in
+    let walking = text_is header fields "walking" c.args.columns.now.walking c.value-7.result.now c.value-7.ensures (ap (λ q. q.walking) columns) in
     record {
       id = text_is header fields "query_id" c.args.columns.now.id c.value-id.result.now c.value-id.ensures (ap (λ q. q.id) columns);
       origin = subst (λ t. IsPlaceRead feed times t c.read_place-origin.result) origin (c.read_place-origin.ensures feed times are);
@@ -31,4 +32,5 @@ returns c = λ feed times header are columns.
       asked = c.moment-asked.ensures ∙ ap (moment 1990 2199) asked;
       transfers = c.transfers-transfers.ensures ∙ ap (count 7) transfers;
       horizon = c.horizon-horizon.ensures ∙ ap (count 2880) horizon;
+      walking = c.walking-walking.ensures ∙ ap walking_asked walking;
     }
