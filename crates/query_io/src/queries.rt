@@ -4,7 +4,7 @@ ghost use Rattle.std.specs.Prelude.{◌≡◌, ◌<◌, ◌^◌, ◌∷◌, [], 
 ghost use Rattle.feed_tables.specs.Records.{table_records};
 ghost use Rattle.flex_model.specs.SoundFeed.{IsSoundFeed};
 ghost use Rattle.flex_model.specs.SoundTimes.{AreSoundTimes};
-ghost use Rattle.flex_model.specs.declared.fault.InputFile.TheVariants as Files;
+ghost use Rattle.flex_model.specs.declared.fault.InputFile.TheVariants as InputFiles;
 ghost use Rattle.feed_meaning.specs.QueryFaults.{queries_schema};
 ghost use Rattle.feed_meaning.specs.Tables.{accepted_faults, entries_of, table_faults};
 ghost use Rattle.feed_meaning.specs.TimesValue.{query_of};
@@ -56,7 +56,7 @@ fn read_table(
     requires feed { IsSoundFeed feed.now }
     requires times { AreSoundTimes feed.now times.now }
     ensures { IfOk result (HoldsQueries
-        (accepted_faults Files.Queries (queries_schema feed.now times.now) None table.now)
+        (accepted_faults InputFiles.Queries (queries_schema feed.now times.now) None table.now)
         (map (λ e. query_of feed.now times.now e.values) (entries_of table.now))) }
 {
     let mut faults = Listed::new(alloc);
@@ -78,7 +78,7 @@ fn read_bytes(
     requires times { AreSoundTimes feed.now times.now }
     requires few { length bytes.now < 2 ^ 32 }
     ensures { IfOk result (HoldsQueries
-        (table_faults Files.Queries (queries_schema feed.now times.now) (table_records bytes.now))
+        (table_faults InputFiles.Queries (queries_schema feed.now times.now) (table_records bytes.now))
         (map (λ e. query_of feed.now times.now e.values) (entries_of (table_records bytes.now)))) }
 {
     match Table::read(alloc, bytes) {

@@ -7,25 +7,17 @@ ghost use Rattle.field_text.specs.Grammars;
 ghost use Rattle.flex_model.specs.declared.feed.Feed as Feeds;
 ghost use Rattle.flex_model.specs.declared.times.Times as Spans;
 ghost use Rattle.query_io.specs.QueryFields.{HasFields, walking_asked};
-ghost use Rattle.query_io.specs.QueryFields as Words;
+ghost use Rattle.query_io.specs.QueryFields;
 ghost use Rattle.query_io.specs.QueryPlaces.{ArePlaceIds};
 
 use crate::query_places::{PlaceIds, read_place};
 use feed_meaning::{is_empty, is_text, value};
 use feed_tables::{RowView, Table};
 use field_text::{read_count, read_moment};
+use flex_model::limits::{
+    FIRST_QUERY_MOMENT, GREATEST_HORIZON, GREATEST_TRANSFERS, LAST_QUERY_MOMENT,
+};
 use flex_model::{FaultCode, Moment, Place};
-
-// The first second of 1990 and the last one of 2199, since 1970-01-01T00:00:00Z.
-const FIRST_MOMENT: i64 = 631_152_000;
-
-const LAST_MOMENT: i64 = 7_258_118_399;
-
-// The most transfers.
-const MOST_TRANSFERS: u64 = 7;
-
-// The longest horizon, in minutes.
-const MOST_HORIZON: u64 = 2_880;
 
 /// Where the columns of a query file stand.
 #[derive(Clone, Copy)]
@@ -55,7 +47,7 @@ pub(crate) struct QueryFields<'a> {
 
 /// The columns of a query file.
 pub(crate) fn query_columns(table: &Table) -> QueryColumns
-    ensures { result ≡ Words.query_columns (header_of table.now) }
+    ensures { result ≡ QueryFields.query_columns (header_of table.now) }
 {
     QueryColumns {
         id: table.column("query_id"),
@@ -76,7 +68,7 @@ fn moment(text: &str) -> Option<Moment>
     let Ok(moment) = read_moment(text) else {
         return None;
     };
-    if moment < FIRST_MOMENT || LAST_MOMENT < moment {
+    if moment < FIRST_QUERY_MOMENT || LAST_QUERY_MOMENT < moment {
         return None;
     }
     Some(moment)
@@ -86,7 +78,7 @@ fn moment(text: &str) -> Option<Moment>
 fn transfers(text: &str) -> Option<u8>
     ensures { result ≡ Grammars.count 7 text.now }
 {
-    match read_count(text, MOST_TRANSFERS) {
+    match read_count(text, GREATEST_TRANSFERS) {
         Ok(number) => Some(number as u8),
         Err(_) => None,
     }
@@ -96,7 +88,7 @@ fn transfers(text: &str) -> Option<u8>
 fn horizon(text: &str) -> Option<u32>
     ensures { result ≡ Grammars.count 2880 text.now }
 {
-    match read_count(text, MOST_HORIZON) {
+    match read_count(text, GREATEST_HORIZON) {
         Ok(number) => Some(number as u32),
         Err(_) => None,
     }
@@ -122,7 +114,7 @@ pub(crate) fn read_fields<'a>(
     row: &RowView<'a>,
 ) -> QueryFields<'a>
     ensures { (feed : Feeds.Feed) (times : Spans.Times) (header : List (List ℕ))
-        → ArePlaceIds feed times ids.now → columns.now ≡ Words.query_columns header
+        → ArePlaceIds feed times ids.now → columns.now ≡ QueryFields.query_columns header
         → HasFields feed times (values_of header row.now.fields) result }
 {
     let id = value(row, columns.id);

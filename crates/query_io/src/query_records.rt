@@ -5,14 +5,14 @@ ghost use Rattle.std.specs.Option.{option_to_list};
 ghost use Rattle.std.specs.Result.{result_err};
 ghost use Rattle.flex_model.specs.SoundFeed.{IsSoundFeed};
 ghost use Rattle.flex_model.specs.SoundTimes.{AreSoundTimes};
-ghost use Rattle.flex_model.specs.declared.fault.InputFile.TheVariants as Files;
+ghost use Rattle.flex_model.specs.declared.fault.InputFile.TheVariants as InputFiles;
 ghost use Rattle.flex_model.specs.declared.feed.Feed as Feeds;
 ghost use Rattle.flex_model.specs.declared.times.Times as Spans;
 ghost use Rattle.feed_meaning.specs.QueryFaults;
 ghost use Rattle.feed_meaning.specs.Rules.{Values, repeats_id, stand};
 ghost use Rattle.feed_meaning.specs.Tables.{entries_of, record_faults};
 ghost use Rattle.feed_meaning.specs.TimesValue.{query_of};
-ghost use Rattle.query_io.specs.QueryFields as Words;
+ghost use Rattle.query_io.specs.QueryFields;
 ghost use Rattle.query_io.specs.QueryFields.{HasFields};
 ghost use Rattle.query_io.specs.Reads.{HoldsQueries};
 
@@ -72,7 +72,7 @@ fn query_rules(fields: &QueryFields<'_>, is_repeated: bool) -> [Option<FaultCode
 
 // The query of a record whose values are all there.
 fn query_from(alloc: Global, fields: &QueryFields<'_>) -> Result<Option<Query>, NoMemory>
-    ensures { IfOk result (λ query. query ≡ Words.query_from fields.now) }
+    ensures { IfOk result (λ query. query ≡ QueryFields.query_from fields.now) }
 {
     let (Ok(origin), Ok(destination)) = (fields.origin, fields.destination) else {
         return Ok(None);
@@ -131,7 +131,7 @@ pub(crate) fn read_records(
     requires feed { IsSoundFeed feed.now }
     requires times { AreSoundTimes feed.now times.now }
     ensures { IfOk result (HoldsQueries
-        (record_faults Files.Queries (QueryFaults.query_rules feed.now times.now)
+        (record_faults InputFiles.Queries (QueryFaults.query_rules feed.now times.now)
         (entries_of table.now))
         (map (λ e. query_of feed.now times.now e.values) (entries_of table.now))) }
 {
