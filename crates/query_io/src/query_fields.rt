@@ -7,7 +7,7 @@ ghost use Rattle.field_text.specs.Grammars;
 ghost use Rattle.flex_model.specs.declared.feed.Feed as Feeds;
 ghost use Rattle.flex_model.specs.declared.times.Times as Spans;
 ghost use Rattle.query_io.specs.QueryFields.{HasFields, walking_asked};
-ghost use Rattle.query_io.specs.QueryFields;
+ghost use Rattle.query_io.specs.QueryFields as FieldValues;
 ghost use Rattle.query_io.specs.QueryPlaces.{ArePlaceIds};
 
 use crate::query_places::{PlaceIds, read_place};
@@ -47,7 +47,7 @@ pub(crate) struct QueryFields<'a> {
 
 /// The columns of a query file.
 pub(crate) fn query_columns(table: &Table) -> QueryColumns
-    ensures { result ≡ QueryFields.query_columns (header_of table.now) }
+    ensures { result ≡ FieldValues.query_columns (header_of table.now) }
 {
     QueryColumns {
         id: table.column("query_id"),
@@ -114,7 +114,7 @@ pub(crate) fn read_fields<'a>(
     row: &RowView<'a>,
 ) -> QueryFields<'a>
     ensures { (feed : Feeds.Feed) (times : Spans.Times) (header : List (List ℕ))
-        → ArePlaceIds feed times ids.now → columns.now ≡ QueryFields.query_columns header
+        → ArePlaceIds feed times ids.now → columns.now ≡ FieldValues.query_columns header
         → HasFields feed times (values_of header row.now.fields) result }
 {
     let id = value(row, columns.id);

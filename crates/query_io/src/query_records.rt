@@ -12,7 +12,7 @@ ghost use Rattle.feed_meaning.specs.QueryFaults;
 ghost use Rattle.feed_meaning.specs.Rules.{Values, repeats_id, stand};
 ghost use Rattle.feed_meaning.specs.Tables.{entries_of, record_faults};
 ghost use Rattle.feed_meaning.specs.TimesValue.{query_of};
-ghost use Rattle.query_io.specs.QueryFields;
+ghost use Rattle.query_io.specs.QueryFields as FieldValues;
 ghost use Rattle.query_io.specs.QueryFields.{HasFields};
 ghost use Rattle.query_io.specs.Reads.{HoldsQueries};
 
@@ -72,7 +72,7 @@ fn query_rules(fields: &QueryFields<'_>, is_repeated: bool) -> [Option<FaultCode
 
 // The query of a record whose values are all there.
 fn query_from(alloc: Global, fields: &QueryFields<'_>) -> Result<Option<Query>, NoMemory>
-    ensures { IfOk result (λ query. query ≡ QueryFields.query_from fields.now) }
+    ensures { IfOk result (λ query. query ≡ FieldValues.query_from fields.now) }
 {
     let (Ok(origin), Ok(destination)) = (fields.origin, fields.destination) else {
         return Ok(None);
