@@ -140,7 +140,7 @@ pub fn faults(alloc: Global, raw: &RawFeed) -> Result<Listed<Fault>, NoMemory>
         → LacksLocations folder → faults ≡ feed_faults geo folder) }
 {
     let alone = level_one(alloc, raw)?;
-    if !alone.as_slice().is_empty() {
+    if !alone.is_empty() {
         return Ok(alone);
     }
     level_two(alloc, raw)

@@ -49,7 +49,7 @@ fn are_direct(queries: &[Query]) -> bool
 fn is_planned_for(feed: &Feed, times: &Times, queries: &Listed<Query>) -> bool
     ensures { IsTrue result ↔ IsPlannedFor feed.now times.now queries.now }
 {
-    is_plain(feed) && times.walks.as_slice().is_empty() && are_direct(queries.as_slice())
+    is_plain(feed) && times.walks.is_empty() && are_direct(queries.as_slice())
 }
 
 // Reads the queries of input whose feed and times are accepted.

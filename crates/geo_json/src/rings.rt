@@ -60,7 +60,7 @@ pub(crate) fn read_ring(alloc: Global, json: &JsonText<'_>, ring: u32) -> Result
         return Err(fault_at(json, ring, FaultCode::GeoShape));
     }
     let corners = read_corners(alloc, json, ring)?;
-    if corners.as_slice().len() < FEWEST_POSITIONS {
+    if corners.len() < FEWEST_POSITIONS {
         return Err(fault_at(json, ring, FaultCode::RingShort));
     }
     if !closes(corners.as_slice()) {

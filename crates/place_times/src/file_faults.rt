@@ -68,7 +68,7 @@ pub(crate) fn table_faults(
     let Found::Read(table) = found else {
         return Ok(outer);
     };
-    if !outer.as_slice().is_empty() {
+    if !outer.is_empty() {
         return Ok(outer);
     }
     row_faults(alloc, file, table)

@@ -244,7 +244,7 @@ fn linked_spans(
 {
     let ids = place_ids(alloc, feed, points)?;
     let faults = link_list(alloc, tables, &ids)?;
-    if !faults.as_slice().is_empty() {
+    if !faults.is_empty() {
         return Ok(LinkedSpans::Faulty(faults));
     }
     let direct = found_spans(alloc, &tables.direct, &ids, GREATEST_DIRECT)?;
@@ -287,7 +287,7 @@ pub(crate) fn read_times(
     let tables = read_tables(alloc, files)?;
     let zone = zone_fault(&files.zone_text, &files.zone_tzif, false);
     let alone = level_one(alloc, zone, &tables)?;
-    if !alone.as_slice().is_empty() {
+    if !alone.is_empty() {
         return Ok(ReadTimes::Faulty(alone));
     }
     read_accepted(alloc, feed, &tables)

@@ -17,8 +17,8 @@ fn place_id<'a>(feed: &'a Feed, times: &'a Times, place: Place) -> &'a str
     ensures given { result.now ≢ [] }
 {
     match place {
-        Place::Stop(s) => feed.stops.as_slice()[s as usize].id.as_str(),
-        Place::Point(p) => times.points.as_slice()[p as usize].id.as_str(),
+        Place::Stop(s) => feed.stops[s as usize].id.as_str(),
+        Place::Point(p) => times.points[p as usize].id.as_str(),
     }
 }
 
@@ -27,7 +27,7 @@ fn sequence(trip: &Trip, row: u32) -> u64
     requires { row < length trip.now.rows }
     ensures { decimal result ≡ sequence_text trip.now row }
 {
-    u64::from(trip.rows.as_slice()[row as usize].sequence)
+    u64::from(trip.rows[row as usize].sequence)
 }
 
 // The start of a ride, where it has one.
@@ -79,6 +79,6 @@ pub(crate) fn write_ride(
     ensures ok { OnOk result (into.new ≡ into.old ++ ride_line feed.now times.now ride.now) }
     ensures err { OnErr result (into.new ≡ into.old) }
 {
-    let trip = &feed.trips.as_slice()[ride.trip as usize];
+    let trip = &feed.trips[ride.trip as usize];
     write_on_trip(feed, times, ride, trip, into)
 }

@@ -61,7 +61,7 @@ fn read_table(
 {
     let mut faults = Listed::new(alloc);
     add_missing_columns(&mut faults, InputFile::Queries, table, &NEEDED)?;
-    if !faults.as_slice().is_empty() {
+    if !faults.is_empty() {
         return Ok(ReadQueries::Faulty(faults));
     }
     read_records(alloc, feed, times, table)

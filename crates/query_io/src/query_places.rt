@@ -66,7 +66,7 @@ pub(crate) fn place_ids<'a>(
 fn boards_at(feed: &Feed, stop: u32) -> bool
     ensures { result ≡ option_map_or (λ stop. stop.boards) (slice_get feed.now.stops stop) false }
 {
-    match feed.stops.as_slice().get(stop as usize) {
+    match feed.stops.get(stop as usize) {
         Some(stop) => stop.boards,
         None => false,
     }

@@ -114,7 +114,7 @@ fn push_query(queries: &mut Listed<Query>, query: Option<Query>) -> Result<(), N
 fn queries_or_faults(faults: Listed<Fault>, queries: Listed<Query>) -> ReadQueries
     ensures { HoldsQueries faults queries result }
 {
-    if faults.as_slice().is_empty() {
+    if faults.is_empty() {
         ReadQueries::Clean(queries)
     } else {
         ReadQueries::Faulty(faults)

@@ -36,7 +36,7 @@ pub fn count_back(feed: &Feed, service: Option<u32>, day: i32, n: u32) -> Option
     ensures { (earlier : ℤ) → IsBack feed.now service day n earlier ↔ (result ≡ Some earlier) }
 {
     match service {
-        Some(s) => days_back(&feed.services.as_slice()[s as usize], day, n),
+        Some(s) => days_back(&feed.services[s as usize], day, n),
         None => Some((i64::from(day) - i64::from(n)) as i32),
     }
 }

@@ -38,7 +38,7 @@ pub fn begin(days: &DayTable, day: i32) -> Option<Moment>
     if index < 0 || 1526 <= index {
         return None;
     }
-    Some(days.base.as_slice()[index as usize])
+    Some(days.base[index as usize])
 }
 
 /// The moment of a time of the service day, in seconds after its begin, which may be 24 hours and more. A day that

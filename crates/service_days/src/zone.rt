@@ -57,7 +57,7 @@ impl ZoneValue {
         ensures { slice_get self.now index ≡ Some result }
     {
         match &self.given {
-            Some(bases) => bases.as_slice()[index],
+            Some(bases) => bases[index],
             None => utc_base(FIRST_DAY + index as u32),
         }
     }

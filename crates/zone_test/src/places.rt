@@ -48,7 +48,7 @@ fn is_in_group(feed: &Feed, group: u32, place: Place) -> bool
 fn group_of(feed: &Feed, group: u32) -> Option<&Group>
     ensures { option_copied result ≡ slice_get feed.now.groups group }
 {
-    feed.groups.as_slice().get(group as usize)
+    feed.groups.get(group as usize)
 }
 
 // Whether the rising numbers have this one.
@@ -63,7 +63,7 @@ fn has_number(numbers: &[u32], number: u32) -> bool
 fn can_board(feed: &Feed, stop: u32) -> bool
     ensures { IsTrue result ↔ HasBoards feed.now stop }
 {
-    let Some(its) = feed.stops.as_slice().get(stop as usize) else {
+    let Some(its) = feed.stops.get(stop as usize) else {
         return false;
     };
     its.boards
@@ -91,7 +91,7 @@ fn is_in_zone(feed: &Feed, times: &Times, zone: u32, place: Place) -> bool
 fn zone_of(feed: &Feed, zone: u32) -> Option<&Zone>
     ensures { option_copied result ≡ slice_get feed.now.zones zone }
 {
-    feed.zones.as_slice().get(zone as usize)
+    feed.zones.get(zone as usize)
 }
 
 // Whether the times have the point, and it lies in the zone of these polygons.
@@ -101,7 +101,7 @@ fn has_point(times: &Times, polygons: &Listed<Polygon>, point: u32) -> bool
     ensures { IsTrue result ↔ ((its : Point) × (slice_get times.now.points point ≡ Some its)
         × IsTrue (spec.is_in_zone polygons.now its.at)) }
 {
-    let Some(its) = times.points.as_slice().get(point as usize) else {
+    let Some(its) = times.points.get(point as usize) else {
         return false;
     };
     contains(polygons, its.at)

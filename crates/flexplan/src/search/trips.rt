@@ -24,7 +24,7 @@ fn best_of_day(feed: &Feed, days: &DayTable, query: &Query, on: &TripDay) -> Opt
         → IsEarliest (IsCandidateOn feed.now times days.now query.entry.now on.now.trip on.now.day)
         result }
 {
-    let trip = &feed.trips.as_slice()[on.trip as usize];
+    let trip = &feed.trips[on.trip as usize];
     if !is_running(feed, days, trip, on.day) {
         return None;
     }
@@ -62,7 +62,7 @@ pub fn best_ride(feed: &Feed, days: &DayTable, query: &Query) -> Option<Ride>
         (IsCandidate feed.now times days.now query.entry.now) result }
 {
     let mut best = None;
-    for trip in 0..feed.trips.as_slice().len() as u32 {
+    for trip in 0..feed.trips.len() as u32 {
         best = earlier(best, best_of_trip(feed, days, query, trip));
     }
     best

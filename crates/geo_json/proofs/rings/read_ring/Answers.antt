@@ -11,18 +11,18 @@ returns-in_err-corners-clause-faults c = λ j of.
     told_err (ring_checks j c.args.ring) c.from_residual.result c.in_err-corners.field-0.0 (p.1 ∙ ap Err p.2)
     (bad_position j c.args.ring c.in_err-corners.field-0.0 (sym (c.is_array.ensures.value j of) ∙ c.if-not-is_array.false) (c.in_err-corners.ensures.faults j of))
 
-pub returns-then-as_slice-lt-FEWEST_POSITIONS-clause-faults : goal.returns-then-as_slice-lt-FEWEST_POSITIONS-clause-faults
-returns-then-as_slice-lt-FEWEST_POSITIONS-clause-faults c = λ j of.
-    short_ring j c.args.ring c.as_slice.result.now (c.as_slice.ensures ∙ c.in_ok-corners.ensures.value j of) (sym (c.is_array.ensures.value j of) ∙ c.if-not-is_array.false) (c.in_ok-corners.ensures.faults j of)
-    c.fault_at-then-as_slice-lt-FEWEST_POSITIONS.result c.if-as_slice-lt-FEWEST_POSITIONS.true (c.fault_at-then-as_slice-lt-FEWEST_POSITIONS.ensures j of)
+pub returns-then-len-lt-FEWEST_POSITIONS-clause-faults : goal.returns-then-len-lt-FEWEST_POSITIONS-clause-faults
+returns-then-len-lt-FEWEST_POSITIONS-clause-faults c = λ j of.
+    short_ring j c.args.ring c.deref.result.now (c.deref.ensures ∙ c.in_ok-corners.ensures.value j of) (sym (c.is_array.ensures.value j of) ∙ c.if-not-is_array.false) (c.in_ok-corners.ensures.faults j of)
+    c.fault_at-then-len-lt-FEWEST_POSITIONS.result c.if-len-lt-FEWEST_POSITIONS.true (c.fault_at-then-len-lt-FEWEST_POSITIONS.ensures j of)
 
 pub returns-then-not-closes-clause-faults : goal.returns-then-not-closes-clause-faults
 returns-then-not-closes-clause-faults c = λ j of.
-    open_ring j c.args.ring c.as_slice.result.now (c.as_slice.ensures ∙ c.in_ok-corners.ensures.value j of) (sym (c.is_array.ensures.value j of) ∙ c.if-not-is_array.false) (c.in_ok-corners.ensures.faults j of)
-    c.fault_at-then-not-closes.result c.if-as_slice-lt-FEWEST_POSITIONS.false
-    (ap closes (c.as_slice.ensures ∙ sym c.as_slice-2.ensures) ∙ sym c.closes.ensures ∙ c.if-not-closes.true) (c.fault_at-then-not-closes.ensures j of)
+    open_ring j c.args.ring c.deref.result.now (c.deref.ensures ∙ c.in_ok-corners.ensures.value j of) (sym (c.is_array.ensures.value j of) ∙ c.if-not-is_array.false) (c.in_ok-corners.ensures.faults j of)
+    c.fault_at-then-not-closes.result c.if-len-lt-FEWEST_POSITIONS.false
+    (ap closes (c.deref.ensures ∙ sym c.as_slice.ensures) ∙ sym c.closes.ensures ∙ c.if-not-closes.true) (c.fault_at-then-not-closes.ensures j of)
 
 pub returns-clause-faults : goal.returns-clause-faults
 returns-clause-faults c = λ j of.
-    good_ring j c.args.ring c.as_slice.result.now (c.as_slice.ensures ∙ c.in_ok-corners.ensures.value j of) (sym (c.is_array.ensures.value j of) ∙ c.if-not-is_array.false) (c.in_ok-corners.ensures.faults j of)
-    c.if-as_slice-lt-FEWEST_POSITIONS.false (ap closes (c.as_slice.ensures ∙ sym c.as_slice-2.ensures) ∙ sym c.closes.ensures ∙ c.if-not-closes.false)
+    good_ring j c.args.ring c.deref.result.now (c.deref.ensures ∙ c.in_ok-corners.ensures.value j of) (sym (c.is_array.ensures.value j of) ∙ c.if-not-is_array.false) (c.in_ok-corners.ensures.faults j of)
+    c.if-len-lt-FEWEST_POSITIONS.false (ap closes (c.deref.ensures ∙ sym c.as_slice.ensures) ∙ sym c.closes.ensures ∙ c.if-not-closes.false)

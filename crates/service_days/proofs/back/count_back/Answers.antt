@@ -10,10 +10,10 @@ pub returns-in-Some : goal.returns-in-Some
 returns-in-Some c earlier =
     let feed = c.args.feed.now in
     let s = c.in-Some.s in
-    let service = c.index-as_slice-s.result in
+    let service = c.index-deref-s.result in
     let within : s < length feed.services = subst (λ given. IfSome given (λ k. k < length feed.services)) c.in-Some.is c.requires.service in
     let at : slice_get feed.services s ≡ Some service =
-    slice_get_read feed.services (length feed.services) s service refl within (c.index-as_slice-s.is ∙ ap (λ all. get_or all s service) c.as_slice.ensures) in
+    slice_get_read feed.services (length feed.services) s service refl within (c.index-deref-s.is ∙ ap (λ all. get_or all s service) c.deref.ensures) in
     let days = subst (λ day. (e : ℤ) → IsDaysBack service day c.args.n e ↔ (c.days_back.result ≡ Some e)) (to_z-of_z w32 c.args.day c.ranges.day) c.days_back.ensures in
     subst (λ given. IsBack feed given c.args.day c.args.n earlier ↔ (c.days_back.result ≡ Some earlier)) (sym c.in-Some.is)
     (service_back feed s service c.args.day c.args.n c.days_back.result at days earlier)

@@ -12,9 +12,9 @@ returns-then-not-is_running c times =
     let feed = c.args.feed.now in
     let days = c.args.days.now in
     let on = c.args.on.now in
-    let trip = c.index-as_slice-on.result in
+    let trip = c.index-deref-on.result in
     let at : slice_get feed.trips on.trip ≡ Some trip =
-    slice_get_read feed.trips (length feed.trips) on.trip trip refl c.requires.trip (c.index-as_slice-on.is ∙ ap (λ all. get_or all on.trip trip) c.as_slice.ensures) in
+    slice_get_read feed.trips (length feed.trips) on.trip trip refl c.requires.trip (c.index-deref-on.is ∙ ap (λ all. get_or all on.trip trip) c.deref.ensures) in
     let fits : SFits w32 on.day = search rules in
     let tells = subst (λ day. IsTrue c.is_running.result ↔ IsRunning feed days trip day) (to_z-of_z w32 on.day fits) c.is_running.ensures in
     none_on_day feed times days c.args.query.now on trip at (λ runs. let yes = tells.1 runs in let no = c.if-not-is_running.true in cc)
@@ -24,10 +24,10 @@ returns c times =
     let feed = c.args.feed.now in
     let days = c.args.days.now in
     let on = c.args.on.now in
-    let trip = c.index-as_slice-on.result in
+    let trip = c.index-deref-on.result in
     let at : slice_get feed.trips on.trip ≡ Some trip =
-    slice_get_read feed.trips (length feed.trips) on.trip trip refl c.requires.trip (c.index-as_slice-on.is ∙ ap (λ all. get_or all on.trip trip) c.as_slice.ensures) in
+    slice_get_read feed.trips (length feed.trips) on.trip trip refl c.requires.trip (c.index-deref-on.is ∙ ap (λ all. get_or all on.trip trip) c.deref.ensures) in
     let fits : SFits w32 on.day = search rules in
     let tells = subst (λ day. IsTrue c.is_running.result ↔ IsRunning feed days trip day) (to_z-of_z w32 on.day fits) c.is_running.ensures in
     earliest_on_day feed times days c.args.query.now on trip at c.requires.plain (tells.0 c.if-not-is_running.false) c.best_of_rows.result
-    (subst (λ rows. IsEarliest (IsBetween days c.args.query.now on rows) c.best_of_rows.result) c.as_slice-2.ensures c.best_of_rows.ensures)
+    (subst (λ rows. IsEarliest (IsBetween days c.args.query.now on rows) c.best_of_rows.result) c.as_slice.ensures c.best_of_rows.ensures)
