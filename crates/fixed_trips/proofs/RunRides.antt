@@ -10,15 +10,16 @@ use Rattle.flex_model.specs.declared.ride.Run.{Run}
 use Rattle.flex_model.specs.declared.times.Times.{Times}
 use Rattle.flex_model.specs.declared.trip.Row.{Row}
 use Rattle.flex_model.specs.declared.trip.Trip.{Trip}
-use Rattle.flex_model.specs.Ride.{IsPermittedRide}
+use Rattle.flex_model.specs.Ride.{HasTimes, IsPermittedRide}
 use Rattle.flex_model.specs.Run.{IsArrival, IsInRun, IsInRuns, IsRunOf, Leg, ride_of}
-use Rattle.fixed_trips.specs.Timed.{HasTimes, IsSingle, IsTimed}
+use Rattle.fixed_trips.specs.Timed.{HasTimedRow, IsSingle}
 
 -- the leg of a ride
 abbrev pub leg_of : Ride → Leg
 leg_of ride = record {
   trip = ride.trip;
   day = ride.day;
+  start = ride.start;
   from_row = ride.from_row;
   to_row = ride.to_row;
   board = ride.board;
@@ -40,8 +41,8 @@ permitted_within feed times days ride p = record {
   within = slice_get_within p.trip.rows ride.to_row p.alighting p.at_alighting;
 }
 
-pub has_times : (feed : Feed) (t r : ℕ) (trip : Trip) (row : Row) → slice_get feed.trips t ≡ Some trip → slice_get trip.rows r ≡ Some row → IsTimed row.timing → HasTimes feed t r
-has_times feed t r trip row of_trip at_row timed = (trip, row, of_trip, at_row, timed)
+pub has_timed_row : (feed : Feed) (t r : ℕ) (trip : Trip) (row : Row) → slice_get feed.trips t ≡ Some trip → slice_get trip.rows r ≡ Some row → HasTimes row.timing → HasTimedRow feed t r
+has_timed_row feed t r trip row of_trip at_row timed = (trip, row, of_trip, at_row, timed)
 
 module _ (feed : Feed) (times : Times) (days : DayTable) where
   -- a permitted ride is in the run of its leg

@@ -1,1 +1,3 @@
+pub mod ChangeRows
 pub mod RulesFound
+pub mod Ways

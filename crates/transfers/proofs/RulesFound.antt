@@ -7,7 +7,7 @@ use Rattle.std.specs.Ordering.{ordering_index, ordering_then}
 use Rattle.flex_model.specs.declared.change.ChangeKind.{ChangeKind}
 use Rattle.flex_model.specs.declared.change.ChangeRow.{ChangeRow}
 use Rattle.flex_model.specs.SoundFeed.{IsChangeBefore}
-use Rattle.flex_model.proofs.ChangeRows.{IsRule, absent_kind, found_kind, no_row}
+use Rattle.transfers.proofs.ChangeRows.{IsRule, absent_kind, found_kind, no_row}
 use Rattle.transfers.specs.ChangeOrder.{change_cmp}
 
 nat_equal : (x y : ℕ) → nat_cmp x y ≡ Equal → x ≡ y

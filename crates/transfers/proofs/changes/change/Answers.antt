@@ -1,7 +1,7 @@
 -- What the rule says, or none within a stop that has no rule.
 use Rattle.std.proofs.Common.{◌≡◌, ◌↔◌, ap, ◌∙◌, Contains, Some, subst}
 use Rattle.flex_model.specs.declared.change.ChangeKind.{ChangeKind}
-use Rattle.flex_model.proofs.Ways.{forbidden_change, least_change, no_change, stays}
+use Rattle.transfers.proofs.Ways.{forbidden_change, least_change, no_change, stays}
 use Rattle.transfers.proofs.changes.change.Goals as goal
 
 pub returns-in-Some-Least : goal.returns-in-Some-Least

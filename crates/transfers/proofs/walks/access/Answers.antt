@@ -1,7 +1,7 @@
 -- A stop elsewhere is reached by a walk.
 use Rattle.std.proofs.Common.{sym, ◌∙◌}
 use Rattle.std.proofs.lemmas.Bool.{false≢true}
-use Rattle.flex_model.proofs.Ways.{access_on_foot}
+use Rattle.transfers.proofs.Ways.{access_on_foot}
 use Rattle.transfers.proofs.walks.access.Goals as goal
 
 pub returns-in-Stop : goal.returns-in-Stop
