@@ -13,7 +13,7 @@ pub returns-then-not-is_empty : goal.returns-then-not-is_empty
 returns-then-not-is_empty c geo folder reads lacks =
     first_given c.in_ok-alone.alone (feed_level_one geo folder) (feed_level_two geo folder)
     (c.in_ok-alone.ensures ∙ level_one-exact geo c.args.raw.now folder reads lacks)
-    (nonempty c.deref.result.now c.in_ok-alone.alone c.is_empty.result c.is_empty.ensures c.deref.ensures c.if-not-is_empty.true)
+    (nonempty c.in_ok-alone.alone c.in_ok-alone.alone c.is_empty.result c.is_empty.ensures refl c.if-not-is_empty.true)
 
 pub returns : goal.returns
 returns c =
@@ -23,7 +23,7 @@ returns c =
     IfOk-weaker c.level_two.result P Q
     (λ faults beside geo folder reads lacks.
     let none : level_one raw ≡ [] = sym c.in_ok-alone.ensures
-    ∙ empty c.deref.result.now c.in_ok-alone.alone c.is_empty.result c.is_empty.ensures c.deref.ensures c.if-not-is_empty.false in
+    ∙ empty c.in_ok-alone.alone c.in_ok-alone.alone c.is_empty.result c.is_empty.ensures refl c.if-not-is_empty.false in
     beside geo folder reads lacks none
     ∙ first_empty (feed_level_one geo folder) (feed_level_two geo folder) (sym (level_one-exact geo raw folder reads lacks) ∙ none))
     c.level_two.ensures

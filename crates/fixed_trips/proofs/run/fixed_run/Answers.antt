@@ -19,30 +19,30 @@ no_row = record { sequence = 0; «spot» = spot.Stop 0; timing = timing.Times 0 
 pub may_ride-requires-clause-boards : goal.may_ride-requires-clause-boards
 may_ride-requires-clause-boards c =
     names_stop c.args.feed.now c.args.trip c.args.from_row _ _ c.requires.feed
-    (row_at c.args.feed.now c.as_slice.result.now c.args.trip c.args.from_row c.index-as_slice-trip.result c.as_slice-rows.result.now no_row c.as_slice.ensures c.index-as_slice-trip.is c.as_slice-rows.ensures c.requires.from_row)
+    (row_at c.args.feed.now c.deref.result.now c.args.trip c.args.from_row c.index-deref-trip.result c.as_slice-rows.result.now no_row c.deref.ensures c.index-deref-trip.is c.as_slice-rows.ensures c.requires.from_row)
 
 pub may_ride-requires-clause-alights : goal.may_ride-requires-clause-alights
 may_ride-requires-clause-alights c =
     names_stop c.args.feed.now c.args.trip c.args.to_row _ _ c.requires.feed
-    (row_at c.args.feed.now c.as_slice.result.now c.args.trip c.args.to_row c.index-as_slice-trip.result c.as_slice-rows.result.now no_row c.as_slice.ensures c.index-as_slice-trip.is c.as_slice-rows.ensures c.requires.to_row)
+    (row_at c.args.feed.now c.deref.result.now c.args.trip c.args.to_row c.index-deref-trip.result c.as_slice-rows.result.now no_row c.deref.ensures c.index-deref-trip.is c.as_slice-rows.ensures c.requires.to_row)
 
 pub timed_run-requires-clause-boards : goal.timed_run-requires-clause-boards
 timed_run-requires-clause-boards c =
-    let from = row_at c.args.feed.now c.as_slice.result.now c.args.trip c.args.from_row c.index-as_slice-trip.result c.as_slice-rows.result.now no_row c.as_slice.ensures c.index-as_slice-trip.is c.as_slice-rows.ensures c.requires.from_row in
+    let from = row_at c.args.feed.now c.deref.result.now c.args.trip c.args.from_row c.index-deref-trip.result c.as_slice-rows.result.now no_row c.deref.ensures c.index-deref-trip.is c.as_slice-rows.ensures c.requires.from_row in
     from.timed
 
 pub timed_run-requires-clause-alights : goal.timed_run-requires-clause-alights
 timed_run-requires-clause-alights c =
-    let to = row_at c.args.feed.now c.as_slice.result.now c.args.trip c.args.to_row c.index-as_slice-trip.result c.as_slice-rows.result.now no_row c.as_slice.ensures c.index-as_slice-trip.is c.as_slice-rows.ensures c.requires.to_row in
+    let to = row_at c.args.feed.now c.deref.result.now c.args.trip c.args.to_row c.index-deref-trip.result c.as_slice-rows.result.now no_row c.deref.ensures c.index-deref-trip.is c.as_slice-rows.ensures c.requires.to_row in
     to.timed
 
 pub returns-then-to_row-from_row-clause-rides : goal.returns-then-to_row-from_row-clause-rides
 returns-then-to_row-from_row-clause-rides c times =
     let feed = c.args.feed.now in
     let days = c.args.days.now in
-    let trip = c.index-as_slice-trip.result in
-    let from = row_at feed c.as_slice.result.now c.args.trip c.args.from_row trip c.as_slice-rows.result.now no_row c.as_slice.ensures c.index-as_slice-trip.is c.as_slice-rows.ensures c.requires.from_row in
-    let to = row_at feed c.as_slice.result.now c.args.trip c.args.to_row trip c.as_slice-rows.result.now no_row c.as_slice.ensures c.index-as_slice-trip.is c.as_slice-rows.ensures c.requires.to_row in
+    let trip = c.index-deref-trip.result in
+    let from = row_at feed c.deref.result.now c.args.trip c.args.from_row trip c.as_slice-rows.result.now no_row c.deref.ensures c.index-deref-trip.is c.as_slice-rows.ensures c.requires.from_row in
+    let to = row_at feed c.deref.result.now c.args.trip c.args.to_row trip c.as_slice-rows.result.now no_row c.deref.ensures c.index-deref-trip.is c.as_slice-rows.ensures c.requires.to_row in
     let on : c.args.day ≡ to_z w32 (of_z w32 c.args.day) = sym (to_z-of_z w32 c.args.day c.ranges.day) in
     let leg : Leg = record { trip = c.args.trip; day = c.args.day; start = c.args.start; from_row = c.args.from_row; to_row = c.args.to_row; board = c.args.board; alight = c.args.alight } in
     no_run feed times days leg trip _ _ from.of_trip from.at_row to.at_row
@@ -62,9 +62,9 @@ pub returns-clause-rides : goal.returns-clause-rides
 returns-clause-rides c times =
     let feed = c.args.feed.now in
     let days = c.args.days.now in
-    let trip = c.index-as_slice-trip.result in
-    let from = row_at feed c.as_slice.result.now c.args.trip c.args.from_row trip c.as_slice-rows.result.now no_row c.as_slice.ensures c.index-as_slice-trip.is c.as_slice-rows.ensures c.requires.from_row in
-    let to = row_at feed c.as_slice.result.now c.args.trip c.args.to_row trip c.as_slice-rows.result.now no_row c.as_slice.ensures c.index-as_slice-trip.is c.as_slice-rows.ensures c.requires.to_row in
+    let trip = c.index-deref-trip.result in
+    let from = row_at feed c.deref.result.now c.args.trip c.args.from_row trip c.as_slice-rows.result.now no_row c.deref.ensures c.index-deref-trip.is c.as_slice-rows.ensures c.requires.from_row in
+    let to = row_at feed c.deref.result.now c.args.trip c.args.to_row trip c.as_slice-rows.result.now no_row c.deref.ensures c.index-deref-trip.is c.as_slice-rows.ensures c.requires.to_row in
     let back : to_z w32 (of_z w32 c.args.day) ≡ c.args.day = to_z-of_z w32 c.args.day c.ranges.day in
     let leg : Leg = record { trip = c.args.trip; day = c.args.day; start = c.args.start; from_row = c.args.from_row; to_row = c.args.to_row; board = c.args.board; alight = c.args.alight } in
     let order : c.args.from_row < c.args.to_row = omega (arith, c.if-to_row-from_row.false) in

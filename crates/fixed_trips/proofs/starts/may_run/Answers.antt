@@ -10,9 +10,9 @@ pub returns : goal.returns
 returns c =
     let services = c.args.feed.now.services in
     let number = c.args.trip.now.service in
-    let service = c.index-as_slice-trip.result in
+    let service = c.index-deref-trip.result in
     let at : slice_get services number ≡ Some service =
-    slice_get_read services (length services) number service refl c.requires.service (c.index-as_slice-trip.is ∙ ap (λ all. get_or all number service) c.as_slice.ensures) in
+    slice_get_read services (length services) number service refl c.requires.service (c.index-deref-trip.is ∙ ap (λ all. get_or all number service) c.deref.ensures) in
     let wrap = to_z-of_z w32 c.args.day c.ranges.day in
     let asked : c.active.result ≡ is_active service c.args.day = subst (λ day. c.active.result ≡ is_active service day) wrap c.active.ensures in (
       λ e. record {

@@ -15,7 +15,7 @@ returns-then-not-is_empty c =
     let ps = values_of_found tables.points in
     let are = subst (λ points. ArePlaceIds feed points c.in_ok-ids.ids) c.requires.points c.in_ok-ids.ensures in
     let same : c.in_ok-faults.faults ≡ link_list feed ps tables = c.in_ok-faults.ensures feed ps are in
-    let full = not_empty c.in_ok-faults.faults (ap (λ fs. length fs == 0) (sym c.deref.ensures) ∙ sym c.is_empty.ensures ∙ c.if-not-is_empty.true) in
+    let full = not_empty c.in_ok-faults.faults (sym c.is_empty.ensures ∙ c.if-not-is_empty.true) in
     (λ none. full (same ∙ none), same)
 
 pub returns : goal.returns
@@ -25,7 +25,7 @@ returns c =
     let ps = values_of_found tables.points in
     let are = subst (λ points. ArePlaceIds feed points c.in_ok-ids.ids) c.requires.points c.in_ok-ids.ensures in
     let same : c.in_ok-faults.faults ≡ link_list feed ps tables = c.in_ok-faults.ensures feed ps are in
-    let none = sym same ∙ is_nil c.in_ok-faults.faults (ap (λ fs. length fs == 0) (sym c.deref.ensures) ∙ sym c.is_empty.ensures ∙ c.if-not-is_empty.false) in
+    let none = sym same ∙ is_nil c.in_ok-faults.faults (sym c.is_empty.ensures ∙ c.if-not-is_empty.false) in
     let last = nil_parts (point_link_list feed tables.points ++ span_link_list feed ps Direct tables.direct) (span_link_list feed ps Walks tables.walks) none in
     let middle = nil_parts (point_link_list feed tables.points) (span_link_list feed ps Direct tables.direct) last.0 in (
       none,

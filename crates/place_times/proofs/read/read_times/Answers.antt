@@ -15,12 +15,12 @@ returns-then-not-is_empty c = λ folder fetched.
     let tables = c.in_ok-tables.tables in
     faults_given false folder c.args.files.now fetched tables c.in_ok-tables.ensures c.args.feed.now c.in_ok-alone.alone
     (c.in_ok-alone.ensures ∙ ap (λ zone. level_one zone tables) c.zone_fault-zone.ensures)
-    (not_empty c.in_ok-alone.alone (ap (λ fs. length fs == 0) (sym c.deref.ensures) ∙ sym c.is_empty.ensures ∙ c.if-not-is_empty.true))
+    (not_empty c.in_ok-alone.alone (sym c.is_empty.ensures ∙ c.if-not-is_empty.true))
 
 pub read_accepted-requires-clause-accepted : goal.read_accepted-requires-clause-accepted
 read_accepted-requires-clause-accepted c =
     accepted_tables (option_to_list c.zone_fault-zone.result) c.in_ok-tables.tables
-    (sym c.in_ok-alone.ensures ∙ is_nil c.in_ok-alone.alone (ap (λ fs. length fs == 0) (sym c.deref.ensures) ∙ sym c.is_empty.ensures ∙ c.if-not-is_empty.false))
+    (sym c.in_ok-alone.ensures ∙ is_nil c.in_ok-alone.alone (sym c.is_empty.ensures ∙ c.if-not-is_empty.false))
 
 pub returns : goal.returns
 returns c =
@@ -29,7 +29,7 @@ returns c =
     let tables = c.in_ok-tables.tables in
     let none : level_one (zone_list files.zone_text files.zone_tzif false) tables ≡ [] =
     ap (λ zone. level_one zone tables) (sym c.zone_fault-zone.ensures) ∙ sym c.in_ok-alone.ensures
-    ∙ is_nil c.in_ok-alone.alone (ap (λ fs. length fs == 0) (sym c.deref.ensures) ∙ sym c.is_empty.ensures ∙ c.if-not-is_empty.false) in
+    ∙ is_nil c.in_ok-alone.alone (sym c.is_empty.ensures ∙ c.if-not-is_empty.false) in
     IfOk-weaker c.read_accepted.result (HoldsTimes (link_list feed (values_of_found tables.points) tables) (times_in feed tables))
     (λ (r : ReadTimes). (folder : Folder) → AreFetched folder files → AreRead (judged false) feed folder r)
     (λ r h folder fetched. accepted_read false folder files fetched tables c.in_ok-tables.ensures none feed r h)

@@ -18,7 +18,7 @@ returns-then-not-is_empty c =
     let faults = c.add_missing_columns.new.faults in
     let same : faults ≡ missing_faults Files.Queries missing =
     c.in_ok-add_missing_columns.ensures (queries_schema feed times) refl ∙ ap (λ fs. fs ++ missing_faults Files.Queries missing) c.new-faults.ensures in
-    let given : (length faults == 0) ≡ false = ap (λ fs. length fs == 0) (sym c.deref.ensures) ∙ sym c.is_empty.ensures ∙ c.if-not-is_empty.true in
+    let given : (length faults == 0) ≡ false = sym c.is_empty.ensures ∙ c.if-not-is_empty.true in
     lacking_holds feed times missing records faults (map (λ e. query_of feed times e.values) (entries_of records)) same given
 
 pub returns : goal.returns
@@ -30,6 +30,6 @@ returns c =
     let faults = c.add_missing_columns.new.faults in
     let same : faults ≡ missing_faults Files.Queries missing =
     c.in_ok-add_missing_columns.ensures (queries_schema feed times) refl ∙ ap (λ fs. fs ++ missing_faults Files.Queries missing) c.new-faults.ensures in
-    let none : faults ≡ [] = is_nil faults (ap (λ fs. length fs == 0) (sym c.deref.ensures) ∙ sym c.is_empty.ensures ∙ c.if-not-is_empty.false) in
+    let none : faults ≡ [] = is_nil faults (sym c.is_empty.ensures ∙ c.if-not-is_empty.false) in
     subst (λ fs. IfOk c.read_records.result (HoldsQueries fs (map (λ e. query_of feed times e.values) (entries_of records))))
     (record_faults_are feed times missing records (sym same ∙ none)) c.read_records.ensures
