@@ -10,8 +10,9 @@ ghost use Rattle.flex_model.specs.declared.feed.Feed.{Feed};
 ghost use Rattle.flex_model.specs.declared.times.Times.{Times};
 ghost use Rattle.fixed_trips.specs.Timed.{HasTimedRow, HasTiming, IsSingle, MayRide, NamesStop};
 
-use crate::starts::{may_run, shift};
+use crate::starts::may_run;
 use flex_model::{Arrives, DayTable, Feed, Moment, Place, Row, Run, Spot, Timing, Way};
+use freq_trips::shift;
 use service_days::moment;
 
 // Whether the record names just this place.

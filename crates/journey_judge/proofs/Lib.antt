@@ -1,0 +1,11 @@
+pub mod Departures
+pub mod DirectTimes
+pub mod FlawOrder
+pub mod JourneyFlaws
+pub mod JourneyTests
+pub mod JudgedJourneys
+pub mod LeastDeadlines
+pub mod RideRecords
+pub mod ShortWalks
+pub mod WalkTallies
+pub mod WindowTimes
