@@ -20,7 +20,7 @@ use Rattle.flex_model.proofs.Found.{All-at, index_of}
 
 -- what counts is all or nothing
 
-if_no_more : (asks : Bool) (seconds : ℕ) → (if asks then seconds else 0) ≤ seconds
+pub if_no_more : (asks : Bool) (seconds : ℕ) → (if asks then seconds else 0) ≤ seconds
 if_no_more true seconds = omega arith
 if_no_more false seconds = omega arith
 
@@ -37,7 +37,7 @@ within_counted : (asks : Bool) (walk most : ℕ) → walk ≤ most → (asks ≡
 within_counted true walk most le nothing = le
 within_counted false walk most le nothing = let none = nothing refl in omega arith
 
-change_no_more : (a b : Place) (seconds : ℕ) → change_walk a b seconds ≤ seconds
+pub change_no_more : (a b : Place) (seconds : ℕ) → change_walk a b seconds ≤ seconds
 change_no_more (Stop a) (Stop b) seconds = else_no_more (a == b) seconds
 change_no_more (Stop a) (Point b) seconds = omega arith
 change_no_more (Point a) b seconds = omega arith
@@ -68,15 +68,15 @@ walk_short feed times a b seconds sound has =
     let at = index_of times.walks (record { from = a; to = b; seconds = seconds }) has in
     All-at (λ (span : Span). span.seconds ≤ 86400) times.walks at.0 (record { from = a; to = b; seconds = seconds }) sound.walks.seconds at.1
 
-access_short : (feed : Feed) (times : Times) (query : Query) (place : Place) (seconds : ℕ) → AreSoundTimes feed times → HasAccess times query place seconds → seconds ≤ 86400
+pub access_short : (feed : Feed) (times : Times) (query : Query) (place : Place) (seconds : ℕ) → AreSoundTimes feed times → HasAccess times query place seconds → seconds ≤ 86400
 access_short feed times query place seconds sound (inl here) = let none = here.1 in omega arith
 access_short feed times query place seconds sound (inr walks) = walk_short feed times query.origin place seconds sound walks.2
 
-egress_short : (feed : Feed) (times : Times) (query : Query) (place : Place) (seconds : ℕ) → AreSoundTimes feed times → HasEgress times query place seconds → seconds ≤ 86400
+pub egress_short : (feed : Feed) (times : Times) (query : Query) (place : Place) (seconds : ℕ) → AreSoundTimes feed times → HasEgress times query place seconds → seconds ≤ 86400
 egress_short feed times query place seconds sound (inl here) = let none = here.1 in omega arith
 egress_short feed times query place seconds sound (inr walks) = walk_short feed times place query.destination seconds sound walks.2
 
-change_short : (feed : Feed) (a b : Place) (seconds : ℕ) → IsSoundFeed feed → HasChange feed a b seconds → seconds ≤ 86400
+pub change_short : (feed : Feed) (a b : Place) (seconds : ℕ) → IsSoundFeed feed → HasChange feed a b seconds → seconds ≤ 86400
 change_short feed (Stop a) (Stop b) seconds sound (inl row) =
     let is_row : ChangeRow = record { from = a; to = b; kind = Least seconds } in
     let at = index_of feed.changes is_row row in

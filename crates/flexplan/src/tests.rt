@@ -1,3 +1,5 @@
+// Runs over files and sinks in memory.
+
 ghost use Rattle.std.specs.Prelude.{None};
 
 use crate::run::run;
