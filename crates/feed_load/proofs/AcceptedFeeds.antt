@@ -25,6 +25,7 @@ use Rattle.feed_load.specs.declared.tables.FeedTables.{FeedTables}
 use Rattle.feed_load.proofs.BookingRecords.{counts_kept}
 use Rattle.feed_load.proofs.KeptChanges.{sound_changes}
 use Rattle.feed_load.proofs.KeptTripRecords.{trip_records}
+use Rattle.feed_load.proofs.RepeatRecords.{headways_kept}
 
 -- the tables that a feed is made of
 fed : Tables → Tables
@@ -59,6 +60,7 @@ kept-accepted t kept =
       dates = λ i d low. filled_is_given (get_or (t CalendarDates) i d "service_id") (is_kept code.EmptyField (is_empty (get_or (t CalendarDates) i d "service_id")) (kept.calendar_dates.alone.at i d low 0 None (lit< tt)));
       counts = counts_kept (t BookingRules) kept.booking_rules.alone;
       records = trip_records t kept;
+      headways = headways_kept t kept;
       changes = record { seconds = changes.seconds; ordered = changes.ordered };
     }
 

@@ -1,8 +1,7 @@
 -- A booking rule by its texts is that of the feed.
-use Rattle.std.proofs.Common.{◌≡◌, ℕ, ◌≤◌, Bool, true, false, not, ◌&&◌, ◌||◌, List, [], ◌∷◌, All, Option, None, Some, map, take, get_or, refl, sym, ◌∙◌, ap, subst, arith, lit<, lit≤}
-use Rattle.std.specs.Prelude.{if◌then◌else◌, is_none, nat_le, unwrap_or}
+use Rattle.std.proofs.Common.{◌≡◌, ℕ, Bool, true, false, not, ◌&&◌, ◌||◌, List, [], ◌∷◌, All, Option, None, Some, map, take, get_or, refl, sym, ◌∙◌, ap, subst, arith, lit<, lit≤}
+use Rattle.std.specs.Prelude.{if◌then◌else◌}
 use Rattle.std.specs.Borrow.{Bor}
-use Rattle.std.proofs.lemmas.Bool.{false≢true, le-leb, leb-true}
 use Rattle.std.proofs.lemmas.List.{get_or-map, length-map}
 use Rattle.std.proofs.lemmas.List.Elements.{All-tail}
 use Rattle.std.proofs.lemmas.Simd.{map-map}
@@ -15,30 +14,21 @@ use Rattle.flex_model.specs.declared.fault.FaultCode.TheVariants as code
 use Rattle.flex_model.specs.declared.fault.InputFile.TheVariants.{BookingRules}
 use Rattle.feed_tables.specs.Records.{RowFields, header_of, rows_of}
 use Rattle.feed_tables.specs.Refusals.{is_given}
-use Rattle.field_text.specs.Grammars.{choice, count, has_digits, number, some_if}
+use Rattle.field_text.specs.Grammars.{choice, count, number}
 use Rattle.feed_meaning.specs.FeedLinks.{Tables}
 use Rattle.feed_meaning.specs.FeedRules.{booking_rules, notice_rules}
 use Rattle.feed_meaning.specs.FeedValue.{index_if_given, opening_of, rule_of, seconds, service_ids}
-use Rattle.feed_meaning.specs.Rules.{Rule as Check, Values, is_bad, is_empty, is_no, is_text, repeats_id, rule}
+use Rattle.feed_meaning.specs.Rules.{Rule as Check, Values, is_empty, is_no, is_text, repeats_id, rule}
 use Rattle.feed_meaning.specs.Tables.{values_of}
-use Rattle.feed_meaning.proofs.FieldBounds.{count_is}
 use Rattle.feed_meaning.proofs.Kept.{AreKept, ObeysRules, is_kept}
 use Rattle.feed_meaning.proofs.SoundNotices.{conditional_kept}
 use Rattle.feed_rules.specs.Links.{records_in}
-use Rattle.feed_load.specs.BookingColumns.{HasCounts, number_within, opens_from, rule_at, rule_columns, start_by}
+use Rattle.feed_load.specs.BookingColumns.{HasCounts, opens_from, rule_at, rule_columns, start_by}
 use Rattle.feed_load.specs.TableValues.{values_in}
-use Rattle.feed_load.specs.Columns.{place_among}
+use Rattle.feed_load.specs.Columns.{number_within, place_among}
+use Rattle.feed_load.proofs.Counts.{number_is, wider}
 use Rattle.feed_load.proofs.Grouping.{unchanged}
 use Rattle.feed_load.proofs.PresentTables.{records_are}
-
-number-of : (text : List ℕ) (o : Option ℕ) → count 4294967295 text ≡ o → (is_given text && is_none o) ≡ false → unwrap_or o 0 ≡ number text
-number-of [] None is kept = refl
-number-of (b ∷ text) None is kept = absurd (false≢true (sym kept))
-number-of text (Some n) is kept = sym (count_is 4294967295 text n is).1
-
--- a field that is empty or a count has its number
-number-is : (text : List ℕ) → is_bad (count 4294967295) text ≡ false → number_within text ≡ number text
-number-is text kept = number-of text (count 4294967295 text) refl kept
 
 opens-is : (b : Bool) (start : Prior) → opens_from (if b then Some start else None) ≡ (if b then Start start else Always)
 opens-is true start = refl
@@ -51,9 +41,9 @@ opening-is r counts =
     let starts = is_given (r "prior_notice_start_day") in
     let day = r "prior_notice_start_day" in
     let time = r "prior_notice_start_time" in
-    ap (λ n. if given then Greatest n else opens_from (start_by day time)) (number-is (r "prior_notice_duration_max") counts.greatest)
+    ap (λ n. if given then Greatest n else opens_from (start_by day time)) (number_is (r "prior_notice_duration_max") counts.greatest)
     ∙ ap (λ o. if given then Greatest (number (r "prior_notice_duration_max")) else o)
-    (opens-is starts (record { days = number_within day; time = seconds time }) ∙ ap (λ n. if starts then Start (record { days = n; time = seconds time }) else Always) (number-is day counts.start_day))
+    (opens-is starts (record { days = number_within day; time = seconds time }) ∙ ap (λ n. if starts then Start (record { days = n; time = seconds time }) else Always) (number_is day counts.start_day))
 
 -- a booking rule with these values
 made : Values → ℕ → SameDay → ℕ → ℕ → Option ℕ → Rule
@@ -81,10 +71,10 @@ rule-is tables ids header fields counts same =
     let start_day = r "prior_notice_start_day" in
     let opening = if is_given (r "prior_notice_duration_max") then Greatest (number_within (r "prior_notice_duration_max")) else opens_from (start_by start_day (r "prior_notice_start_time")) in
     let service : List (List ℕ) → Option ℕ = λ xs. index_if_given (place_among xs) (r "prior_notice_service_id") in
-    ap (λ n. made r n opening (number_within last_day) (number_within start_day) (service ids)) (number-is least counts.least)
+    ap (λ n. made r n opening (number_within last_day) (number_within start_day) (service ids)) (number_is least counts.least)
     ∙ ap (λ o. made r (number least) o (number_within last_day) (number_within start_day) (service ids)) (opening-is r counts)
-    ∙ ap (λ n. made r (number least) (opening_of r) n (number_within start_day) (service ids)) (number-is last_day counts.last_day)
-    ∙ ap (λ n. made r (number least) (opening_of r) (number last_day) n (service ids)) (number-is start_day counts.start_day)
+    ∙ ap (λ n. made r (number least) (opening_of r) n (number_within start_day) (service ids)) (number_is last_day counts.last_day)
+    ∙ ap (λ n. made r (number least) (opening_of r) (number last_day) n (service ids)) (number_is start_day counts.start_day)
     ∙ ap (λ xs. made r (number least) (opening_of r) (number last_day) (number start_day) (service xs)) (sym same)
 
 -- the rules of a table are those of the feed
@@ -105,20 +95,6 @@ rules_are tables ids found table rules is counts made_is records same =
     ∙ ap (map (rule_of tables)) (sym (records ∙ there))
 
 -- ---- what tables without faults say
-
--- a value up to a bound is one up to a greater bound
-wider-test : (digits low high : Bool) (n : ℕ) → (low ≡ true → high ≡ true) → is_none (some_if (digits && low) n) ≡ false → is_none (some_if (digits && high) n) ≡ false
-wider-test false low high n up e = absurd (false≢true (sym e))
-wider-test true false high n up e = absurd (false≢true (sym e))
-wider-test true true true n up e = refl
-wider-test true true false n up e = absurd (false≢true (up refl))
-
-wider : (greatest : ℕ) (text : List ℕ) → greatest ≤ 4294967295 → is_bad (count greatest) text ≡ false → is_bad (count 4294967295) text ≡ false
-wider greatest [] low kept = refl
-wider greatest (b ∷ text) low kept =
-    let n = number (b ∷ text) in
-    wider-test (has_digits 1 20 (b ∷ text)) (nat_le n greatest) (nat_le n 4294967295) n
-    (λ e. let h : n ≤ greatest = leb-true n greatest e in le-leb n 4294967295 (omega (arith, h, low))) kept
 
 notice-counts : (r : Values) → AreKept (notice_rules r) → HasCounts r
 notice-counts r kept =

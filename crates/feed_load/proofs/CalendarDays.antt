@@ -33,7 +33,7 @@ exceptions-more weeks dates r id kind =
     ap (map on) (filter-append test dates (r ∷ [])) ∙ map-append on (filter test dates) (cond (test r) (r ∷ []) [])
     ∙ ap (λ xs. map on (filter test dates) ++ xs) (one-passes on (test r) r)
 
--- a service with these dates in place of its own
+-- a service with these dates in index of its own
 with_dates : Service → List ℤ → List ℤ → Service
 with_dates s added removed = record s { added = added; removed = removed }
 
@@ -69,7 +69,7 @@ service-more weeks dates r id same is =
     by true = changed-by (service_of (calendars weeks dates) id) (day (r "date")) (is_text (r "exception_type") "1") (is_text (r "exception_type") "2") (one-kind (r "exception_type"))
     by false = changed-by (service_of (calendars weeks dates) id) (day (r "date")) false false (λ e. refl)
 
--- the services after a record of the service at a place
+-- the services after a record of the service at a index
 pub services_more : (weeks : List Values) (ids : List (List ℕ)) → AreIds ids → (dates : List Values) (r : Values) (k : ℕ) (d : Service) → position (bytes_eq (r "service_id")) ids ≡ Some k
     → map (service_of (calendars weeks (dates ++ r ∷ []))) ids
     ≡ set (map (service_of (calendars weeks dates)) ids) k (with_exception (r "exception_type") (day (r "date")) (get_or (map (service_of (calendars weeks dates)) ids) k d))
@@ -97,7 +97,7 @@ module _ (weeks : List Values) (ids : List (List ℕ)) (header : List (List ℕ)
   abbrev before : List Service
   before = map (service_of (calendars weeks (values_under header seen))) ids
 
-  -- one more record is of the service at a place
+  -- one more record is of the service at a index
   pub date_noted : AreIds ids → (k : ℕ) (kind : List ℕ) (d : ℤ) (old new : Service) → position (bytes_eq id) ids ≡ Some k
       → kind ≡ values_of header row.fields "exception_type" → d ≡ day (values_of header row.fields "date")
       → old ≡ get_or items k old → new ≡ with_exception kind d old

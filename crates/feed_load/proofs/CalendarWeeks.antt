@@ -61,7 +61,7 @@ find_first p xs x none e = find-append p xs (x ∷ []) ∙ ap (λ o. option_or o
 abbrev names : List ℕ → Values → Bool
 names id r = bytes_eq id (r "service_id")
 
--- a service with the week and the days of a record in place of its own, none where there is none
+-- a service with the week and the days of a record in index of its own, none where there is none
 in_week : Service → Option Values → Service
 in_week s calendar = record s {
   flags = option_map_or week calendar no_days;
@@ -90,7 +90,7 @@ week_repeats weeks r id false is met = week_same weeks r id (find_past (names id
 week_of_another : (weeks : List Values) (r : Values) (id : List ℕ) → names id r ≡ false → service_of (calendars (weeks ++ r ∷ []) []) id ≡ service_of (calendars weeks []) id
 week_of_another weeks r id is = week_same weeks r id (find_past (names id) weeks r is)
 
--- the services after the first record of the service at a place
+-- the services after the first record of the service at a index
 weeks_more : (ids : List (List ℕ)) → AreIds ids → (weeks : List Values) (r : Values) (k : ℕ) (d : Service) → position (bytes_eq (r "service_id")) ids ≡ Some k
     → list_any (names (r "service_id")) weeks ≡ false
     → map (service_of (calendars (weeks ++ r ∷ []) [])) ids
@@ -135,19 +135,19 @@ module _ (ids : List (List ℕ)) (header : List (List ℕ)) (seen : List RowFiel
   after : map (service_of (calendars (weeks ++ r ∷ []) [])) ids ≡ map (service_of (calendars (values_under header (seen ++ row ∷ [])) [])) ids
   after = ap (λ vs. map (service_of (calendars vs [])) ids) (sym (values_more header seen row))
 
-  -- one more record is the first of the service at a place
+  -- one more record is the first of the service at a index
   pub week_noted : (met : List (List ℕ)) → met ≡ fold noted [] (map (λ v. v "service_id") weeks) → AreIds ids → (k : ℕ) (old new : Service) → position (bytes_eq id) ids ≡ Some k
       → (is_given id && list_any (bytes_eq id) met) ≡ false
       → old ≡ get_or items k old → new ≡ with_week_at (week_columns header) row.fields old
       → set items k new ≡ map (service_of (calendars (values_under header (seen ++ row ∷ [])) [])) ids
   week_noted met met_is are k old new found is_new was becomes =
-      let place : position (bytes_eq (r "service_id")) ids ≡ Some k = ap (λ t. position (bytes_eq t) ids) (sym id_is) ∙ found in
+      let index : position (bytes_eq (r "service_id")) ids ≡ Some k = ap (λ t. position (bytes_eq t) ids) (sym id_is) ∙ found in
       let low = found_low ids id k found in
       let given : is_given id ≡ true = is_given-from id (λ e. are.given k [] low (found_is ids id k [] found ∙ e)) in
       let none : list_any (names (r "service_id")) weeks ≡ false = met_tell met met_is given ∙ sym (ap (λ g. g && list_any (bytes_eq id) met) given) ∙ is_new in
       ap (set items k) (becomes ∙ ap (with_week r) was)
       ∙ ap (λ xs. set xs k (with_week r (get_or xs k old))) earlier
-      ∙ sym (weeks_more ids are weeks r k old place none) ∙ after
+      ∙ sym (weeks_more ids are weeks r k old index none) ∙ after
 
   -- or isn't the first of its service
   pub week_repeated : (met : List (List ℕ)) → met ≡ fold noted [] (map (λ v. v "service_id") weeks) → (g b : Bool) → is_given id ≡ g → list_any (bytes_eq id) met ≡ b → (g && b) ≡ true

@@ -14,21 +14,21 @@ use Rattle.feed_meaning.specs.Told.{IsWithin}
 use Rattle.feed_rules.specs.Folders.{place_of}
 
 -- the files stand at their places
-pub place-is : (i : ℕ) (d : InputFile) → i < 13 → place_of (get_or feed_files i d) ≡ i
-place-is zero d low = refl
-place-is (suc zero) d low = refl
-place-is (suc (suc zero)) d low = refl
-place-is (suc (suc (suc zero))) d low = refl
-place-is (suc (suc (suc (suc zero)))) d low = refl
-place-is (suc (suc (suc (suc (suc zero))))) d low = refl
-place-is (suc (suc (suc (suc (suc (suc zero)))))) d low = refl
-place-is (suc (suc (suc (suc (suc (suc (suc zero))))))) d low = refl
-place-is (suc (suc (suc (suc (suc (suc (suc (suc zero)))))))) d low = refl
-place-is (suc (suc (suc (suc (suc (suc (suc (suc (suc zero))))))))) d low = refl
-place-is (suc (suc (suc (suc (suc (suc (suc (suc (suc (suc zero)))))))))) d low = refl
-place-is (suc (suc (suc (suc (suc (suc (suc (suc (suc (suc (suc zero))))))))))) d low = refl
-place-is (suc (suc (suc (suc (suc (suc (suc (suc (suc (suc (suc (suc zero)))))))))))) d low = refl
-place-is (suc (suc (suc (suc (suc (suc (suc (suc (suc (suc (suc (suc (suc i))))))))))))) d low = absurd (omega (arith, low))
+pub index-is : (i : ℕ) (d : InputFile) → i < 13 → place_of (get_or feed_files i d) ≡ i
+index-is zero d low = refl
+index-is (suc zero) d low = refl
+index-is (suc (suc zero)) d low = refl
+index-is (suc (suc (suc zero))) d low = refl
+index-is (suc (suc (suc (suc zero)))) d low = refl
+index-is (suc (suc (suc (suc (suc zero))))) d low = refl
+index-is (suc (suc (suc (suc (suc (suc zero)))))) d low = refl
+index-is (suc (suc (suc (suc (suc (suc (suc zero))))))) d low = refl
+index-is (suc (suc (suc (suc (suc (suc (suc (suc zero)))))))) d low = refl
+index-is (suc (suc (suc (suc (suc (suc (suc (suc (suc zero))))))))) d low = refl
+index-is (suc (suc (suc (suc (suc (suc (suc (suc (suc (suc zero)))))))))) d low = refl
+index-is (suc (suc (suc (suc (suc (suc (suc (suc (suc (suc (suc zero))))))))))) d low = refl
+index-is (suc (suc (suc (suc (suc (suc (suc (suc (suc (suc (suc (suc zero)))))))))))) d low = refl
+index-is (suc (suc (suc (suc (suc (suc (suc (suc (suc (suc (suc (suc (suc i))))))))))))) d low = absurd (omega (arith, low))
 
 -- no limit is above 2^32 - 1
 limit-few : (file : InputFile) → byte_limit file ≤ 4294967295
@@ -48,7 +48,7 @@ pub set-next : (f : Folder) (raws : List RawFile) (i : ℕ) (d : InputFile) (raw
     → take i raws ≡ map f (take i feed_files) → take (i + 1) (set raws (place_of (get_or feed_files i d)) raw) ≡ map f (take (i + 1) feed_files)
 set-next f raws i d raw low size is earlier =
     let more : i + 1 ≡ suc i = omega arith in
-    ap (λ p. take (i + 1) (set raws p raw)) (place-is i d low)
+    ap (λ p. take (i + 1) (set raws p raw)) (index-is i d low)
     ∙ ap (λ n. take n (set raws i raw)) more
     ∙ take-suc-set raws i raw (omega (arith, low, size))
     ∙ ap (λ xs. xs ++ raw ∷ []) earlier

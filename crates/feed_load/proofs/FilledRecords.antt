@@ -70,7 +70,7 @@ count-map f p [] = refl
 count-map f p (x ∷ xs) =
     sum_by-cons (λ y. cond (p y) 1 0) (f x) (map f xs) ∙ ap (λ n. cond (p (f x)) 1 0 + n) (count-map f p xs) ∙ sym (sum_by-cons (λ y. cond (p (f y)) 1 0) x xs)
 
--- a test that is another one after a place and up to a later one, and fails elsewhere
+-- a test that is another one after a index and up to a later one, and fails elsewhere
 module _ {X : Type 0} (f u : X → Bool) (xs : List X) (d : X) (p q : ℕ) (lt : p < q) (low : q ≤ length xs)
     (early : (j : ℕ) → j < length xs → j ≤ p → f (get_or xs j d) ≡ false)
     (amid : (j : ℕ) → j < length xs → p < j → j < q → f (get_or xs j d) ≡ u (get_or xs j d))
@@ -189,7 +189,7 @@ module _ (rs zs : List Values) (trip : List ℕ) (moved : IsPermutation (filter 
   timed-there : (i : ℕ) → i < length zs → Link.is_timed (at i) ≡ true → Contains timed (at i)
   timed-there i low e = filter_contains Link.is_timed rs (at i) (there i low).0 e
 
-  -- the place of a timed record of the trip
+  -- the index of a timed record of the trip
   placed : (s : Values) → Contains timed s → s "trip_id" ≡ trip → (i : ℕ) × (i < length zs) × (at i ≡ s) × (Link.is_timed s ≡ true)
   placed s c same =
       let t = contains_filter Link.is_timed rs s c in
@@ -271,7 +271,7 @@ module _ (rs zs : List Values) (trip : List ℕ) (moved : IsPermutation (filter 
   abbrev test_after : ℕ → Values → Bool
   test_after i a = is_before (at i) a && not (list_any (λ b. is_before (at i) b && is_before b a) timed)
 
-  -- the place of the nearest timed record before one
+  -- the index of the nearest timed record before one
   record IsFormer (i : ℕ) (f : Values) : Type 0 where
     p : ℕ
     is : at p ≡ f
@@ -282,19 +282,19 @@ module _ (rs zs : List Values) (trip : List ℕ) (moved : IsPermutation (filter 
   former-is : (i : ℕ) (f : Values) → i < length zs → Contains timed f → test_before i f ≡ true → IsFormer i f
   former-is i f low c e =
       let parts = and_parts (is_before f (at i)) (not (list_any (λ b. is_before f b && is_before b (at i)) timed)) e in
-      let place = placed f c ((before_is f (at i) parts.0).trip ∙ trip-at i low) in
-      let p = place.0 in
-      let lt = is-earlier p i place.1 (ap (λ s. is_before s (at i)) place.2 ∙ parts.0) in
+      let index = placed f c ((before_is f (at i) parts.0).trip ∙ trip-at i low) in
+      let p = index.0 in
+      let lt = is-earlier p i index.1 (ap (λ s. is_before s (at i)) index.2 ∙ parts.0) in
       record {
         p = p;
-        is = place.2;
+        is = index.2;
         before = lt;
-        timed = timed-row p place.1 ∙ ap Link.is_timed place.2 ∙ place.3;
+        timed = timed-row p index.1 ∙ ap Link.is_timed index.2 ∙ index.3;
         none = λ j lt' lt''. false_from_ne_true (is_timed_at gs j) (λ t.
             let low_j : j < length zs = omega arith in
             false≢true (sym (not-true (list_any (λ b. is_before f b && is_before b (at i)) timed) parts.1)
             ∙ item_any (λ b. is_before f b && is_before b (at i)) timed (at j) (timed-there j low_j (sym (timed-row j low_j) ∙ t))
-            (and_from (is_before f (at j)) (is_before (at j) (at i)) (ap (λ s. is_before s (at j)) (sym place.2) ∙ earlier p j lt' low_j) (earlier j i lt'' low))));
+            (and_from (is_before f (at j)) (is_before (at j) (at i)) (ap (λ s. is_before s (at j)) (sym index.2) ∙ earlier p j lt' low_j) (earlier j i lt'' low))));
       }
 
   record IsLatter (i : ℕ) (l : Values) : Type 0 where
@@ -308,21 +308,21 @@ module _ (rs zs : List Values) (trip : List ℕ) (moved : IsPermutation (filter 
   latter-is : (i : ℕ) (l : Values) → i < length zs → Contains timed l → test_after i l ≡ true → IsLatter i l
   latter-is i l low c e =
       let parts = and_parts (is_before (at i) l) (not (list_any (λ b. is_before (at i) b && is_before b l) timed)) e in
-      let place = placed l c (sym (before_is (at i) l parts.0).trip ∙ trip-at i low) in
-      let q = place.0 in
-      let lt = is-earlier i q low (ap (is_before (at i)) place.2 ∙ parts.0) in
+      let index = placed l c (sym (before_is (at i) l parts.0).trip ∙ trip-at i low) in
+      let q = index.0 in
+      let lt = is-earlier i q low (ap (is_before (at i)) index.2 ∙ parts.0) in
       record {
         q = q;
-        low = place.1;
-        is = place.2;
+        low = index.1;
+        is = index.2;
         after = lt;
-        timed = timed-row q place.1 ∙ ap Link.is_timed place.2 ∙ place.3;
+        timed = timed-row q index.1 ∙ ap Link.is_timed index.2 ∙ index.3;
         none = λ j lt' lt''. false_from_ne_true (is_timed_at gs j) (λ t.
-            let high : q < length zs = place.1 in
+            let high : q < length zs = index.1 in
             let low_j : j < length zs = omega arith in
             false≢true (sym (not-true (list_any (λ b. is_before (at i) b && is_before b l) timed) parts.1)
             ∙ item_any (λ b. is_before (at i) b && is_before b l) timed (at j) (timed-there j low_j (sym (timed-row j low_j) ∙ t))
-            (and_from (is_before (at i) (at j)) (is_before (at j) l) (earlier i j lt' low_j) (ap (is_before (at j)) (sym place.2) ∙ earlier j q lt'' high))));
+            (and_from (is_before (at i) (at j)) (is_before (at j) l) (earlier i j lt' low_j) (ap (is_before (at j)) (sym index.2) ∙ earlier j q lt'' high))));
       }
 
   low-timed : (j : ℕ) → is_timed_at gs j ≡ true → j < length zs
@@ -338,11 +338,11 @@ module _ (rs zs : List Values) (trip : List ℕ) (moved : IsPermutation (filter 
       (not_from_false (list_any (λ s. is_before (at p) s && is_before s (at i)) timed) (false_from_ne_true (list_any (λ s. is_before (at p) s && is_before s (at i)) timed) (λ e.
       let s = any_item (λ s. is_before (at p) s && is_before s (at i)) timed e in
       let parts = and_parts (is_before (at p) s.0) (is_before s.0 (at i)) s.2 in
-      let place = placed s.0 s.1 ((before_is s.0 (at i) parts.1).trip ∙ trip-at i low_i) in
-      let lt = is-earlier p place.0 low_p (ap (is_before (at p)) place.2 ∙ parts.0) in
-      let lt' = is-earlier place.0 i place.1 (ap (λ x. is_before x (at i)) place.2 ∙ parts.1) in
+      let index = placed s.0 s.1 ((before_is s.0 (at i) parts.1).trip ∙ trip-at i low_i) in
+      let lt = is-earlier p index.0 low_p (ap (is_before (at p)) index.2 ∙ parts.0) in
+      let lt' = is-earlier index.0 i index.1 (ap (λ x. is_before x (at i)) index.2 ∙ parts.1) in
       let lt'' = b.before in
-      false≢true (sym (b.gap.none place.0 lt (omega arith)) ∙ timed-row place.0 place.1 ∙ ap Link.is_timed place.2 ∙ place.3))))))
+      false≢true (sym (b.gap.none index.0 lt (omega arith)) ∙ timed-row index.0 index.1 ∙ ap Link.is_timed index.2 ∙ index.3))))))
 
   no-latter : (p i q : ℕ) → IsBetween gs p i q → list_any (test_after i) timed ≡ false → ⊥
   no-latter p i q b none =
@@ -353,11 +353,11 @@ module _ (rs zs : List Values) (trip : List ℕ) (moved : IsPermutation (filter 
       (not_from_false (list_any (λ s. is_before (at i) s && is_before s (at q)) timed) (false_from_ne_true (list_any (λ s. is_before (at i) s && is_before s (at q)) timed) (λ e.
       let s = any_item (λ s. is_before (at i) s && is_before s (at q)) timed e in
       let parts = and_parts (is_before (at i) s.0) (is_before s.0 (at q)) s.2 in
-      let place = placed s.0 s.1 ((before_is s.0 (at q) parts.1).trip ∙ trip-at q low_q) in
-      let lt = is-earlier i place.0 low_i (ap (is_before (at i)) place.2 ∙ parts.0) in
-      let lt' = is-earlier place.0 q place.1 (ap (λ x. is_before x (at q)) place.2 ∙ parts.1) in
+      let index = placed s.0 s.1 ((before_is s.0 (at q) parts.1).trip ∙ trip-at q low_q) in
+      let lt = is-earlier i index.0 low_i (ap (is_before (at i)) index.2 ∙ parts.0) in
+      let lt' = is-earlier index.0 q index.1 (ap (λ x. is_before x (at q)) index.2 ∙ parts.1) in
       let lt'' = b.after in
-      false≢true (sym (b.gap.none place.0 (omega arith) lt') ∙ timed-row place.0 place.1 ∙ ap Link.is_timed place.2 ∙ place.3))))))
+      false≢true (sym (b.gap.none index.0 (omega arith) lt') ∙ timed-row index.0 index.1 ∙ ap Link.is_timed index.2 ∙ index.3))))))
 
   -- ---- the time of an untimed record
 

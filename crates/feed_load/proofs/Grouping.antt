@@ -28,7 +28,7 @@ one_changed old new change (r ∷ rs) (suc k) d e low here others =
 
 -- ---- a text among ids
 
--- the id at the place of a text is the text
+-- the id at the index of a text is the text
 pub found_is : (ids : List (List ℕ)) (text : List ℕ) (k : ℕ) (d : List ℕ) → position (bytes_eq text) ids ≡ Some k → get_or ids k d ≡ text
 found_is ids text k d e =
     let p = position-Some (bytes_eq text) ids k d e in

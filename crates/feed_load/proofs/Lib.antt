@@ -8,7 +8,9 @@ pub mod CalendarWeeks
 pub mod CalendarDays
 pub mod GroupRecords
 pub mod RisingMembers
+pub mod Counts
 pub mod BookingRecords
+pub mod RepeatRecords
 pub mod BoardingStops
 pub mod ChangesFound
 pub mod ChangeOrder

@@ -1,4 +1,4 @@
--- The pass that fills the times of rows: what it knows at each place.
+-- The pass that fills the times of rows: what it knows at each index.
 use Rattle.std.proofs.Common.{◌≡◌, ◌≢◌, ℕ, zero, suc, ◌+◌, ◌-◌, ◌<◌, ◌≤◌, Bool, true, false, cond, not, ◌&&◌, ◌||◌, List, [], ◌∷◌, Option, None, Some, take, drop, length, get_or, refl, sym, ◌∙◌, ap, subst, arith, inl, inr}
 use Rattle.std.specs.Prelude.{MatchOption, count_by, is_some}
 use Rattle.std.proofs.Math.ListN.{set}
@@ -55,7 +55,7 @@ count-rises p (x ∷ xs) (suc i) (suc j) le =
     let right = sum_by-cons (λ y. cond (p y) 1 0) x (take j xs) in
     omega (arith, rest, left, right)
 
--- the rows from a place on
+-- the rows from a index on
 pub rows_from : (rows : List GivenRow) (n : ℕ) → take (length rows - n) (drop n rows) ≡ drop n rows
 rows_from rows n = grind (arith, common_steps)
 
@@ -74,9 +74,9 @@ module _ (rows : List GivenRow) where
   untimed-not-timed : (i : ℕ) → is_untimed (row_at rows i) ≡ true → is_timed_at rows i ≡ false
   untimed-not-timed i u = Rattle.std.proofs.lemmas.Bool.false_from_ne_true (is_timed_at rows i) (λ t. not-both (row_at rows i) t u)
 
-  -- ---- the gap around a place
+  -- ---- the gap around a index
 
-  -- the gap that the place lies in, or before whose end it lies
+  -- the gap that the index lies in, or before whose end it lies
   pub record IsOpen (i : ℕ) (gap : Gap) : Type 0 where
     pub p : ℕ
     pub q : ℕ
@@ -95,7 +95,7 @@ module _ (rows : List GivenRow) where
   -- a gap that begins at the row before
   pub opened : (i : ℕ) (row : GivenRow) (gap : Gap) → is_timed_at rows i ≡ true → row ≡ row_at rows i → IsOpenFrom row (drop (i + 1) rows) gap → IsOpen (i + 1) gap
   opened i row gap timed is o =
-      let m = o.next.place in
+      let m = o.next.index in
       let at : row_at (drop (i + 1) rows) m ≡ row_at rows (i + 1 + m) = get_or-drop (i + 1) rows m blank in
       let step = same i (timed-low rows i timed) (timed-not-untimed i timed) in
       let parts : untimed_before rows (i + 1 + m) ≡ untimed_before rows (i + 1) + untimed_before (drop (i + 1) rows) m =
@@ -130,7 +130,7 @@ module _ (rows : List GivenRow) where
   opens i row later None timed is same' none = none_opened i (ap is_timed (sym is) ∙ timed) (subst HasNone same' none)
   opens i row later (Some gap) timed is same' from = opened i row gap (ap is_timed (sym is) ∙ timed) is (subst (λ xs. IsOpenFrom row xs gap) same' from)
 
-  -- a row without time leaves the place in its gap
+  -- a row without time leaves the index in its gap
   pub passed_by : (i : ℕ) (gap : Option Gap) → i < length rows → is_timed_at rows i ≡ false → is_untimed (row_at rows i) ≡ false → IsState i gap → IsState (i + 1) gap
   passed_by i None low timed untimed none = λ p q gap lt le. elim (cases_lt p i) [
     | inl less ↦ none p q gap less (omega arith)
@@ -274,7 +274,7 @@ module _ (rows : List GivenRow) where
     | inr most ↦ let at : i ≡ j = omega arith in subst P at here
   ]
 
-  -- the row at the place stays
+  -- the row at the index stays
   pub goes_on : (i : ℕ) (new : List GivenRow) (gap gap' : Option Gap) → i < length rows → IsFilledTo i new gap → IsFilledAt rows i (row_at rows i) → IsState (i + 1) gap' → IsFilledTo (i + 1) new gap'
   goes_on i new gap gap' low f here state = record {
     many = f.many;

@@ -56,7 +56,7 @@ rising_lists (x ∷ xs) (y ∷ ys) up up' to from =
 -- ---- members as they stand in the file
 
 module _ (stop_ids : List (List ℕ)) (are : AreIds stop_ids) (group : List ℕ) where
-  -- the pair is of the group and the stop at this place
+  -- the pair is of the group and the stop at this index
   abbrev pub pairs_with : ℕ → Values → Bool
   pairs_with k p = bytes_eq group (p "location_group_id") && bytes_eq (get_or stop_ids k []) (p "stop_id")
 
@@ -64,7 +64,7 @@ module _ (stop_ids : List (List ℕ)) (are : AreIds stop_ids) (group : List ℕ)
   member-is p k c = by (bytes_eq group (p "location_group_id")) (position (bytes_eq (p "stop_id")) stop_ids) refl refl c
     where
       by : (b : Bool) (o : Option ℕ) → bytes_eq group (p "location_group_id") ≡ b → position (bytes_eq (p "stop_id")) stop_ids ≡ o
-          → Contains (cond b (option_map_or (λ (place : ℕ). place ∷ []) o []) []) k → (k < length stop_ids) × (pairs_with k p ≡ true)
+          → Contains (cond b (option_map_or (λ (index : ℕ). index ∷ []) o []) []) k → (k < length stop_ids) × (pairs_with k p ≡ true)
       by false o e f c' = absurd (none_contained k c')
       by true None e f c' = absurd (none_contained k c')
       by true (Some j) e f c' =
@@ -75,9 +75,9 @@ module _ (stop_ids : List (List ℕ)) (are : AreIds stop_ids) (group : List ℕ)
                 (equal (get_or stop_ids k []) (p "stop_id") (ap (λ n. get_or stop_ids n []) same ∙ found_is stop_ids (p "stop_id") j [] f)),
           )
 
-  -- the place of the stop
-  place-is : (text : List ℕ) (k : ℕ) → k < length stop_ids → get_or stop_ids k [] ≡ text → position (bytes_eq text) stop_ids ≡ Some k
-  place-is text k low e =
+  -- the index of the stop
+  index-is : (text : List ℕ) (k : ℕ) → k < length stop_ids → get_or stop_ids k [] ≡ text → position (bytes_eq text) stop_ids ≡ Some k
+  index-is text k low e =
       sym (position-found (bytes_eq text) stop_ids k low
       (λ j lt. not_equal text (get_or stop_ids j []) (λ h. are.distinct j k [] lt low (sym h ∙ sym e)))
       (equal text (get_or stop_ids k []) (sym e)))
@@ -85,9 +85,9 @@ module _ (stop_ids : List (List ℕ)) (are : AreIds stop_ids) (group : List ℕ)
   member-from : (p : Values) (k : ℕ) → k < length stop_ids → pairs_with k p ≡ true → Contains (member_of stop_ids group p) k
   member-from p k low e =
       let parts = and_parts (bytes_eq group (p "location_group_id")) (bytes_eq (get_or stop_ids k []) (p "stop_id")) e in
-      let found = place-is (p "stop_id") k low ((bytes_eq-Decides (get_or stop_ids k []) (p "stop_id")).0 parts.1) in
+      let found = index-is (p "stop_id") k low ((bytes_eq-Decides (get_or stop_ids k []) (p "stop_id")).0 parts.1) in
       let is : member_of stop_ids group p ≡ k ∷ [] =
-      ap (λ b. cond b (option_map_or (λ (place : ℕ). place ∷ []) (position (bytes_eq (p "stop_id")) stop_ids) []) []) parts.0 ∙ ap (λ o. option_map_or (λ (place : ℕ). place ∷ []) o []) found in
+      ap (λ b. cond b (option_map_or (λ (index : ℕ). index ∷ []) (position (bytes_eq (p "stop_id")) stop_ids) []) []) parts.0 ∙ ap (λ o. option_map_or (λ (index : ℕ). index ∷ []) o []) found in
       subst (λ xs. Contains xs k) (sym is) (Contains-first k [])
 
   pub members_paired : (pairs : List Values) (k : ℕ) → Contains (flat_map (member_of stop_ids group) pairs) k → (k < length stop_ids) × (list_any (pairs_with k) pairs ≡ true)

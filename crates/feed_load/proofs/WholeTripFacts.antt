@@ -7,11 +7,11 @@ use Rattle.std.specs.List.Sorted.{IsNonDecreasingBy, IsPermutation}
 use Rattle.std.specs.Str.{bytes_eq}
 use Rattle.std.proofs.Math.ListN as Raw
 use Rattle.std.proofs.lemmas.Bool.{false_from_ne_true, false≢true}
-use Rattle.std.proofs.lemmas.List.{ext_get_or, get_or-map, length-map}
-use Rattle.std.proofs.lemmas.List.Elements.{All-filter, All-head, All-tail}
+use Rattle.std.proofs.lemmas.List.{ext_get_or, length-map}
+use Rattle.std.proofs.lemmas.List.Elements.{All-filter}
 use Rattle.std.proofs.lemmas.List.Sorted.{All-permutation}
-use Rattle.flex_model.specs.SoundTimes.{AreIds}
 use Rattle.flex_model.specs.declared.fault.InputFile.TheVariants.{Stops, Trips, StopTimes, Locations, LocationGroups, BookingRules, Frequencies}
+use Rattle.flex_model.specs.declared.trip.Repeat.{Repeat}
 use Rattle.flex_model.specs.declared.trip.Row.{Row}
 use Rattle.flex_model.specs.declared.trip.Spot.{Spot}
 use Rattle.flex_model.specs.declared.trip.Spot.TheVariants as spot
@@ -25,22 +25,25 @@ use Rattle.field_text.specs.Grammars.{number}
 use Rattle.feed_meaning.specs.FeedLinks as Link
 use Rattle.feed_meaning.specs.FeedLinks.{Tables, is_before, is_in}
 use Rattle.feed_meaning.specs.FeedRules.{has_time, has_window, sequence as stop_sequence}
-use Rattle.feed_meaning.specs.FeedValue.{filled, index_in, rising, row_of, seconds, service_index, spot_of, timing_of, trip_of, way_of}
-use Rattle.feed_meaning.specs.Indexes.{HasIds}
+use Rattle.feed_meaning.specs.FeedValue.{filled, index_in, records_of_trip, repeat_of, rising, row_of, seconds, service_index, spot_of, timing_of, trip_of, way_of}
 use Rattle.feed_meaning.specs.Rules.{Values, is_empty, is_text}
 use Rattle.feed_meaning.proofs.FieldBounds.{count_is}
 use Rattle.feed_meaning.proofs.LinkFacts.{index_in-position}
-use Rattle.feed_meaning.proofs.NamedLists.{is_given-from}
 use Rattle.feed_meaning.proofs.Rising.{rising-unique}
 use Rattle.feed_meaning.proofs.TripOrder.{before_irreflexive, before_is, before_transitive}
 use Rattle.feed_load.specs.Columns.{place_among}
 use Rattle.feed_load.specs.Drafts.{draft_of, given_of, row_with, spot_among, way_among}
 use Rattle.feed_load.specs.LinearTimes.{AreFilled, IsFilledAt, arrival, departure, is_untimed, row_at}
+use Rattle.feed_load.specs.OpenTrips.{open_trip}
+use Rattle.feed_load.specs.Repeats.{HasHeadway, read_repeat}
 use Rattle.feed_load.specs.TableValues.{values_in}
-use Rattle.feed_load.specs.WholeTrips.{AreRowsOf, AreTripRecords, AreTripTables, IsTripRecord, IsWhole, open_trip}
+use Rattle.feed_load.specs.WholeTrips.{AreRowsOf, AreTripRecords, AreTripTables, IsTripRecord, IsWhole}
 use Rattle.feed_load.specs.declared.drafts.Draft.{Draft}
 use Rattle.feed_load.specs.declared.named_ids.FeedIds.{FeedIds}
 use Rattle.feed_load.specs.declared.linear_times.GivenRow.{GivenRow}
+use Rattle.feed_rules.specs.Links.{records_in}
+use Rattle.feed_load.proofs.Grouping.{unchanged}
+use Rattle.feed_load.proofs.RepeatRecords.{repeat_is, some_kept}
 use Rattle.feed_load.proofs.FilledRecords.{row-is, untimed-is, untimed-times}
 use Rattle.feed_load.proofs.Permuted.{AllPairs-permutation, items_of}
 
@@ -198,17 +201,20 @@ strictly ids zs drafts same ordered up i j d lt low = elim (ordered i j d lt low
 
 -- ---- trips
 
-abbrev HasIdGiven : Values → Type 0
-HasIdGiven r = is_given (r "trip_id") ≡ true
-
-made-trip : List ℕ → ℕ → Bool → List Row → Trip
-made-trip i s f rows = record { id = i; service = s; frequent = f; rows = rows }
+made-trip : List ℕ → ℕ → Bool → List Repeat → List Row → Trip
+made-trip i s f repeats rows = record { id = i; service = s; frequent = f; repeats = repeats; rows = rows }
 
 module _ (of_trips of_stop_times : List (List (List ℕ))) (of_frequencies : Option (Bor (List (List (List ℕ))))) (ids : FeedIds) (tables : Tables)
-    (of : AreTripTables of_trips of_stop_times of_frequencies ids tables) (kept : AreTripRecords (tables StopTimes)) (frequent : List (List ℕ)) (has : HasIds frequent tables Frequencies "trip_id") where
-  one-trip : (r : Values) (t : Trip) → HasIdGiven r → IsWhole (open_trip ids frequent (tables StopTimes) r) t → t ≡ trip_of tables r
+    (of : AreTripTables of_trips of_stop_times of_frequencies ids tables) (kept : AreTripRecords (tables StopTimes)) (headways : All HasHeadway (tables Frequencies)) where
+  -- the repeats of a trip
+  repeats-are : (trip : List ℕ) → map read_repeat (records_of_trip tables Frequencies trip) ≡ map repeat_of (records_of_trip tables Frequencies trip)
+  repeats-are trip =
+      unchanged repeat_of read_repeat (records_of_trip tables Frequencies trip)
+      (λ i d low. repeat_is (get_or (records_of_trip tables Frequencies trip) i d) (All-filter (λ s. bytes_eq trip (s "trip_id")) HasHeadway (tables Frequencies) headways i d low))
+
+  one-trip : (r : Values) (t : Trip) → IsWhole (open_trip ids (tables Frequencies) (tables StopTimes) r) t → t ≡ trip_of tables r
   unfolding made-trip
-  one-trip r t given whole =
+  one-trip r t whole =
       let xs = filter (λ s. bytes_eq (r "trip_id") (s "trip_id")) (tables StopTimes) in
       let o = items_of (draft_of ids) xs whole.sorted whole.moved in
       let pairs = strictly ids o.items whole.sorted o.values (AllPairs-permutation Ordered turned xs o.items o.moved (kept.ordered (r "trip_id"))) whole.rising in
@@ -217,31 +223,26 @@ module _ (of_trips of_stop_times : List (List (List ℕ))) (of_frequencies : Opt
       rows-are tables ids of.named.stops of.named.groups of.named.booking_rules of.no_zones kept (r "trip_id") o.items o.moved pairs t.rows (subst (λ ds. AreRowsOf ds t.rows) (sym o.values) whole.rows)
       ∙ ap (map (row_of tables)) in_order in
       let service : t.service ≡ service_index tables (r "service_id") = whole.service ∙ ap (λ xs. place_among xs (r "service_id")) of.named.services in
-      let named : t.frequent ≡ is_in tables Frequencies "trip_id" (r "trip_id") = whole.frequent ∙ has (r "trip_id") given in
-      ap (λ i. made-trip i t.service t.frequent t.rows) whole.id
-      ∙ ap (λ s. made-trip (r "trip_id") s t.frequent t.rows) service
-      ∙ ap (λ f. made-trip (r "trip_id") (service_index tables (r "service_id")) f t.rows) named
-      ∙ ap (made-trip (r "trip_id") (service_index tables (r "service_id")) (is_in tables Frequencies "trip_id" (r "trip_id"))) rows
+      let frequent : t.frequent ≡ is_in tables Frequencies "trip_id" (r "trip_id") = whole.frequent ∙ some_kept read_repeat (λ s. bytes_eq (r "trip_id") (s "trip_id")) (tables Frequencies) in
+      let repeats : t.repeats ≡ map repeat_of (records_of_trip tables Frequencies (r "trip_id")) = whole.repeats ∙ repeats-are (r "trip_id") in
+      ap (λ i. made-trip i t.service t.frequent t.repeats t.rows) whole.id
+      ∙ ap (λ s. made-trip (r "trip_id") s t.frequent t.repeats t.rows) service
+      ∙ ap (λ f. made-trip (r "trip_id") (service_index tables (r "service_id")) f t.repeats t.rows) frequent
+      ∙ ap (λ rs. made-trip (r "trip_id") (service_index tables (r "service_id")) (is_in tables Frequencies "trip_id" (r "trip_id")) rs t.rows) repeats
+      ∙ ap (made-trip (r "trip_id") (service_index tables (r "service_id")) (is_in tables Frequencies "trip_id" (r "trip_id")) (map repeat_of (records_of_trip tables Frequencies (r "trip_id")))) rows
 
-  trips-among : (trips : List Values) (ts : List Trip) → All HasIdGiven trips → AllZip IsWhole (map (open_trip ids frequent (tables StopTimes)) trips) ts → ts ≡ map (trip_of tables) trips
-  trips-among [] [] given all = refl
-  trips-among [] (t ∷ ts) given all = absurd all
-  trips-among (r ∷ trips) [] given all = absurd all
-  trips-among (r ∷ trips) (t ∷ ts) given all =
-      ap (λ x. x ∷ ts) (one-trip r t (All-head HasIdGiven r trips given) all.0) ∙ ap (λ xs. trip_of tables r ∷ xs) (trips-among trips ts (All-tail HasIdGiven r trips given) all.1)
-
-ids-given : (trips : List Values) → AreIds (map (λ r. r "trip_id") trips) → All HasIdGiven trips
-ids-given trips are i d low =
-    is_given-from (get_or trips i d "trip_id")
-    (λ e. are.given i [] (let size = length-map trips (λ (r : Values). r "trip_id") in omega (arith, size)) (get_or-map (λ (r : Values). r "trip_id") trips i d [] low ∙ e))
+  trips-among : (trips : List Values) (ts : List Trip) → AllZip IsWhole (map (open_trip ids (tables Frequencies) (tables StopTimes)) trips) ts → ts ≡ map (trip_of tables) trips
+  trips-among [] [] all = refl
+  trips-among [] (t ∷ ts) all = absurd all
+  trips-among (r ∷ trips) [] all = absurd all
+  trips-among (r ∷ trips) (t ∷ ts) all = ap (λ x. x ∷ ts) (one-trip r t all.0) ∙ ap (λ xs. trip_of tables r ∷ xs) (trips-among trips ts all.1)
 
 -- the trips with their records in order are those of the feed
 pub trips_are : (of_trips of_stop_times : List (List (List ℕ))) (of_frequencies : Option (Bor (List (List (List ℕ))))) (ids : FeedIds) (tables : Tables)
-    → AreTripTables of_trips of_stop_times of_frequencies ids tables → AreIds (map (λ r. r "trip_id") (values_in of_trips)) → AreTripRecords (values_in of_stop_times)
-    → (frequent : List (List ℕ)) → HasIds frequent tables Frequencies "trip_id"
-    → (ts : List Trip) → AllZip IsWhole (map (open_trip ids frequent (values_in of_stop_times)) (values_in of_trips)) ts → ts ≡ map (trip_of tables) (tables Trips)
-trips_are of_trips of_stop_times of_frequencies ids tables of are kept frequent has ts all =
-    trips-among of_trips of_stop_times of_frequencies ids tables of (subst AreTripRecords (sym of.stop_times) kept) frequent has (tables Trips) ts
-    (subst (All HasIdGiven) (sym of.trips) (ids-given (values_in of_trips) are))
-    (subst (λ rs. AllZip IsWhole (map (open_trip ids frequent (tables StopTimes)) rs) ts) (sym of.trips)
-    (subst (λ rs. AllZip IsWhole (map (open_trip ids frequent rs) (values_in of_trips)) ts) (sym of.stop_times) all))
+    → AreTripTables of_trips of_stop_times of_frequencies ids tables → AreTripRecords (values_in of_stop_times) → All HasHeadway (records_in of_frequencies)
+    → (ts : List Trip) → AllZip IsWhole (map (open_trip ids (records_in of_frequencies) (values_in of_stop_times)) (values_in of_trips)) ts → ts ≡ map (trip_of tables) (tables Trips)
+trips_are of_trips of_stop_times of_frequencies ids tables of kept headways ts all =
+    trips-among of_trips of_stop_times of_frequencies ids tables of (subst AreTripRecords (sym of.stop_times) kept) (subst (All HasHeadway) (sym of.frequencies) headways) (tables Trips) ts
+    (subst (λ rs. AllZip IsWhole (map (open_trip ids (tables Frequencies) (tables StopTimes)) rs) ts) (sym of.trips)
+    (subst (λ rs. AllZip IsWhole (map (open_trip ids (tables Frequencies) rs) (values_in of_trips)) ts) (sym of.stop_times)
+    (subst (λ rs. AllZip IsWhole (map (open_trip ids rs (values_in of_stop_times)) (values_in of_trips)) ts) (sym of.frequencies) all)))

@@ -11,7 +11,8 @@ use Rattle.feed_rules.specs.Links.{records_in}
 use Rattle.feed_load.specs.Columns.{column_named, text_at}
 use Rattle.feed_load.specs.declared.weeks.WeekColumns.{WeekColumns}
 
--- the tables with these records of calendar.txt and of calendar_dates.txt, where each other file has no record
+-- the tables with these records of calendar.txt and of calendar_dates.txt, where each other file
+-- has no record
 abbrev pub calendars : List Values → List Values → Tables
 calendars weeks dates Calendar = weeks
 calendars weeks dates CalendarDates = dates
@@ -23,7 +24,8 @@ NameServices table = All (λ r. IsTrue (is_given (r "service_id"))) (records_in 
 
 -- a service with the week and the days of a record
 abbrev pub with_week : Values → Service → Service
-with_week r service = record service { flags = week r; first = day (r "start_date"); last = day (r "end_date") }
+with_week r service =
+    record service { flags = week r; first = day (r "start_date"); last = day (r "end_date") }
 
 abbrev pub week_columns : List (List ℕ) → WeekColumns
 week_columns header = record {
@@ -44,13 +46,19 @@ runs_at fields column = is_text (text_at fields column) "1"
 -- the flags of a week by a record's fields
 abbrev pub week_at : WeekColumns → List (List ℕ) → List Bool
 week_at columns fields =
-    runs_at fields columns.monday ∷ runs_at fields columns.tuesday ∷ runs_at fields columns.wednesday ∷ runs_at fields columns.thursday
-    ∷ runs_at fields columns.friday ∷ runs_at fields columns.saturday ∷ runs_at fields columns.sunday ∷ []
+    runs_at fields columns.monday ∷ runs_at fields columns.tuesday
+    ∷ runs_at fields columns.wednesday ∷ runs_at fields columns.thursday
+    ∷ runs_at fields columns.friday ∷ runs_at fields columns.saturday
+    ∷ runs_at fields columns.sunday ∷ []
 
 -- a service with the week and the days of a record, by its fields
 abbrev pub with_week_at : WeekColumns → List (List ℕ) → Service → Service
 with_week_at columns fields service =
-    record service { flags = week_at columns fields; first = day (text_at fields columns.start); last = day (text_at fields columns.end) }
+    record service {
+      flags = week_at columns fields;
+      first = day (text_at fields columns.start);
+      last = day (text_at fields columns.end);
+    }
 
 -- a service with one more exception: a day that is added at type 1, and removed at type 2
 abbrev pub with_exception : List ℕ → ℤ → Service → Service

@@ -24,20 +24,27 @@ HasSeconds kind seconds = (is_text kind "2" && is_bad (count 86400) seconds) ≡
 
 -- so it is at a record that isn't passed over
 abbrev pub HasSoundSeconds : Values → Type 0
-HasSoundSeconds r = is_passed_over r ≡ false → HasSeconds (r "transfer_type") (r "min_transfer_time")
+HasSoundSeconds r =
+    is_passed_over r ≡ false → HasSeconds (r "transfer_type") (r "min_transfer_time")
 
--- What an accepted folder makes sure of: seconds are counts, and of two changes one comes before the other.
+-- What an accepted folder makes sure of: seconds are counts, and of two changes one comes before
+-- the other.
 pub record AreSoundChanges (tables : Tables) : Type 0 where
   pub seconds : All HasSoundSeconds (tables Transfers)
-  pub ordered : AllPairs (λ a b. (change_before a b ≡ true) ⊎ (change_before b a ≡ true)) (map (change_of tables) (filter (is_change tables) (tables Transfers)))
+  pub ordered : AllPairs (λ a b. (change_before a b ≡ true) ⊎ (change_before b a ≡ true))
+      (map (change_of tables) (filter (is_change tables) (tables Transfers)))
 
 -- whether one may change and how fast, by a type and seconds; other types say nothing of it
 abbrev pub kind_by : List ℕ → List ℕ → Option ChangeKind
-kind_by kind seconds = if is_text kind "2" then Some (Least (number seconds)) else if is_text kind "3" then Some Forbidden else None
+kind_by kind seconds =
+    if is_text kind "2" then Some (Least (number seconds))
+    else if is_text kind "3" then Some Forbidden
+    else None
 
 -- the number of a stop where one can board
 abbrev pub boarding_stop_at : Tables → List ℕ → Option ℕ
-boarding_stop_at tables text = some_if (boards_at tables text) (index_in tables Stops "stop_id" text)
+boarding_stop_at tables text =
+    some_if (boards_at tables text) (index_in tables Stops "stop_id" text)
 
 -- the change of a record, where it gives one
 abbrev pub given_change : Tables → Values → Option ChangeRow

@@ -3,6 +3,7 @@ use Rattle.std.specs.Prelude.{ℕ, List, [], Option, codes, position, unwrap_or}
 use Rattle.std.specs.Option.{option_map_or}
 use Rattle.std.specs.Str.{bytes_eq}
 use Rattle.feed_tables.specs.Fields.{value_at}
+use Rattle.field_text.specs.Grammars.{count}
 use Prim.Native.String.{String}
 
 abbrev pub column_named : List (List ℕ) → String → Option ℕ
@@ -12,6 +13,10 @@ column_named header name = position (bytes_eq (codes name)) header
 abbrev pub text_at : List (List ℕ) → Option ℕ → List ℕ
 text_at fields column = option_map_or (value_at fields) column []
 
--- the place of an id among these, 0 where it isn't among them
+-- the index of an id among these, 0 where it isn't among them
 abbrev pub place_among : List (List ℕ) → List ℕ → ℕ
 place_among ids text = unwrap_or (position (bytes_eq text) ids) 0
+
+-- a number that fits 32 bits, and 0 where the text has none
+abbrev pub number_within : List ℕ → ℕ
+number_within text = unwrap_or (count 4294967295 text) 0

@@ -29,12 +29,17 @@ spot_among stop_ids group_ids stop group =
 abbrev pub way_among : List (List ℕ) → Bool → List ℕ → List ℕ → Way
 way_among rule_ids windowed kind rule =
     if is_text kind "1" then No
-    else if is_text kind "2" || (is_empty kind && windowed) then Book (index_if_given (place_among rule_ids) rule)
+    else if is_text kind "2" || (is_empty kind && windowed)
+    then Book (index_if_given (place_among rule_ids) rule)
     else Free
 
 -- the times that a record gives
 abbrev pub given_of : Values → GivenRow
-given_of r = record { window = has_window r; arrives = time (r "arrival_time"); departs = time (r "departure_time") }
+given_of r = record {
+  window = has_window r;
+  arrives = time (r "arrival_time");
+  departs = time (r "departure_time");
+}
 
 -- a record of a trip beside the ids
 abbrev pub draft_of : FeedIds → Values → Draft
@@ -44,8 +49,10 @@ draft_of ids r = record {
   start = seconds (r "start_pickup_drop_off_window");
   end = seconds (r "end_pickup_drop_off_window");
   given = given_of r;
-  pickup = way_among ids.booking_rules (has_window r) (r "pickup_type") (r "pickup_booking_rule_id");
-  drop_off = way_among ids.booking_rules (has_window r) (r "drop_off_type") (r "drop_off_booking_rule_id");
+  pickup =
+      way_among ids.booking_rules (has_window r) (r "pickup_type") (r "pickup_booking_rule_id");
+  drop_off =
+      way_among ids.booking_rules (has_window r) (r "drop_off_type") (r "drop_off_booking_rule_id");
 }
 
 -- a row with these times, of which one stands for both
@@ -53,7 +60,9 @@ abbrev pub row_with : Draft → GivenRow → Row
 row_with draft times = record {
   sequence = draft.sequence;
   «spot» = draft.spot;
-  timing = if draft.given.window then timing.Window draft.start draft.end else timing.Times (arrival times) (departure times);
+  timing =
+      if draft.given.window then timing.Window draft.start draft.end
+      else timing.Times (arrival times) (departure times);
   pickup = draft.pickup;
   drop_off = draft.drop_off;
 }
@@ -76,16 +85,26 @@ draft_columns header = record {
 }
 
 abbrev pub windowed_at : DraftColumns → List (List ℕ) → Bool
-windowed_at columns fields = is_given (text_at fields columns.start) || is_given (text_at fields columns.end)
+windowed_at columns fields =
+    is_given (text_at fields columns.start) || is_given (text_at fields columns.end)
 
 -- a record of a trip by its fields
 abbrev pub draft_at : FeedIds → DraftColumns → List (List ℕ) → Draft
 draft_at ids columns fields = record {
   sequence = unwrap_or (stop_sequence (text_at fields columns.sequence)) 0;
-  «spot» = spot_among ids.stops ids.groups (text_at fields columns.stop) (text_at fields columns.group);
+  «spot» =
+      spot_among ids.stops ids.groups (text_at fields columns.stop) (text_at fields columns.group);
   start = seconds (text_at fields columns.start);
   end = seconds (text_at fields columns.end);
-  given = record { window = windowed_at columns fields; arrives = time (text_at fields columns.arrival); departs = time (text_at fields columns.departure) };
-  pickup = way_among ids.booking_rules (windowed_at columns fields) (text_at fields columns.pickup) (text_at fields columns.pickup_rule);
-  drop_off = way_among ids.booking_rules (windowed_at columns fields) (text_at fields columns.drop_off) (text_at fields columns.drop_off_rule);
+  given = record {
+    window = windowed_at columns fields;
+    arrives = time (text_at fields columns.arrival);
+    departs = time (text_at fields columns.departure);
+  };
+  pickup =
+      way_among ids.booking_rules (windowed_at columns fields) (text_at fields columns.pickup)
+      (text_at fields columns.pickup_rule);
+  drop_off =
+      way_among ids.booking_rules (windowed_at columns fields) (text_at fields columns.drop_off)
+      (text_at fields columns.drop_off_rule);
 }

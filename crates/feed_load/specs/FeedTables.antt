@@ -7,6 +7,7 @@ use Rattle.feed_meaning.specs.FeedLinks.{Tables}
 use Rattle.feed_rules.specs.Links.{records_in}
 use Rattle.feed_load.specs.BookingColumns.{HasCounts}
 use Rattle.feed_load.specs.ChangeTables.{AreSoundChanges}
+use Rattle.feed_load.specs.Repeats.{HasHeadway}
 use Rattle.feed_load.specs.TableValues.{values_in}
 use Rattle.feed_load.specs.WholeTrips.{AreTripRecords}
 use Rattle.feed_load.specs.declared.tables.FeedTables.{FeedTables}
@@ -25,8 +26,9 @@ tables_of t Transfers = records_in t.transfers
 tables_of t Frequencies = records_in t.frequencies
 tables_of t file = []
 
--- What an accepted folder makes sure of: ids are distinct and not empty, records name services, numbers and times are
--- such where they are given, and of two records of one trip, as of two changes, one comes before the other.
+-- What an accepted folder makes sure of: ids are distinct and not empty, records name services,
+-- numbers and times are such where they are given, and of two records of one trip, as of two
+-- changes, one comes before the other.
 pub record AreAcceptedTables (tables : Tables) : Type 0 where
   pub stop_ids : AreIds (map (λ r. r "stop_id") (tables Stops))
   pub group_ids : AreIds (map (λ r. r "location_group_id") (tables LocationGroups))
@@ -36,4 +38,5 @@ pub record AreAcceptedTables (tables : Tables) : Type 0 where
   pub dates : All (λ r. IsTrue (is_given (r "service_id"))) (tables CalendarDates)
   pub counts : All HasCounts (tables BookingRules)
   pub records : AreTripRecords (tables StopTimes)
+  pub headways : All HasHeadway (tables Frequencies)
   pub changes : AreSoundChanges tables

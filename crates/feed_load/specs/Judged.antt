@@ -31,5 +31,6 @@ AreFound folder (Some t) = HaveRecords t (tables no_geo folder)
 
 -- the tables of an accepted folder, or the fault list of another
 abbrev pub IsJudged : Folder → Judged → Type 0
-IsJudged folder (Accepted t) = (feed_faults no_geo folder ≡ []) × HaveRecords t (tables no_geo folder)
+IsJudged folder (Accepted t) =
+    (feed_faults no_geo folder ≡ []) × HaveRecords t (tables no_geo folder)
 IsJudged folder (Faulty faults) = (faults ≢ []) × (faults ≡ feed_faults no_geo folder)

@@ -7,6 +7,8 @@ pub mod ChangeTables
 pub mod ChangeColumns
 pub mod LinearTimes
 pub mod Drafts
+pub mod Repeats
+pub mod OpenTrips
 pub mod WholeTrips
 pub mod FeedTables
 pub mod NamedIds

@@ -1,5 +1,5 @@
--- The times of the rows of a trip that have none of their own. They lie evenly between those of their neighbours, which is
--- this project's own.
+-- The times of the rows of a trip that have none of their own. They lie evenly between those of
+-- their neighbours, which is this project's own.
 use Rattle.std.specs.Prelude.{◌≡◌, ℕ, ◌+◌, ◌-◌, ◌*◌, ◌/◌, ◌<◌, Bool, true, false, not, ◌&&◌, ◌||◌, List, Some, None, is_some, unwrap_or, length, take, get_or, count_by}
 use Rattle.std.specs.Option.{option_or}
 use Rattle.feed_load.specs.declared.linear_times.Ahead.{Ahead}
@@ -21,14 +21,14 @@ arrival row = unwrap_or (option_or row.arrives row.departs) 0
 abbrev pub departure : GivenRow → ℕ
 departure row = unwrap_or (option_or row.departs row.arrives) 0
 
--- the row at a place, past the end one without times
+-- the row at a index, past the end one without times
 abbrev pub row_at : List GivenRow → ℕ → GivenRow
 row_at rows i = get_or rows i (record { window = true; arrives = None; departs = None })
 
 abbrev pub is_timed_at : List GivenRow → ℕ → Bool
 is_timed_at rows i = is_timed (row_at rows i)
 
--- how many rows before a place have neither a time nor a window
+-- how many rows before a index have neither a time nor a window
 abbrev pub untimed_before : List GivenRow → ℕ → ℕ
 untimed_before rows i = count_by is_untimed (take i rows)
 
@@ -53,12 +53,13 @@ pub record IsBetween (rows : List GivenRow) (p i q : ℕ) : Type 0 where
 abbrev pub time_between : List GivenRow → ℕ → ℕ → ℕ → ℕ
 time_between rows p i q =
     share (departure (row_at rows p)) (arrival (row_at rows q))
-    (untimed_before rows i - untimed_before rows p + 1) (untimed_before rows q - untimed_before rows p + 1)
+    (untimed_before rows i - untimed_before rows p + 1)
+    (untimed_before rows q - untimed_before rows p + 1)
 
 abbrev pub timed_row : ℕ → GivenRow
 timed_row time = record { window = false; arrives = Some time; departs = Some time }
 
--- a row after filling: one without time between two neighbours has its time, and each other one is as it was
+-- a row after filling: one without time between two neighbours has its time, each other stays
 pub record IsFilledAt (rows : List GivenRow) (i : ℕ) (row : GivenRow) : Type 0 where
   pub filled : (p q : ℕ) → IsBetween rows p i q → row ≡ timed_row (time_between rows p i q)
   pub kept : ((p q : ℕ) → IsBetween rows p i q → ⊥) → row ≡ row_at rows i
@@ -73,11 +74,11 @@ HasNone rows = (j : ℕ) → is_timed_at rows j ≡ false
 
 -- the first of the rows that has a time
 pub record IsNext (rows : List GivenRow) (ahead : Ahead) : Type 0 where
-  pub place : ℕ
-  pub timed : is_timed_at rows place ≡ true
-  pub none : (j : ℕ) → j < place → is_timed_at rows j ≡ false
-  pub arrives : ahead.arrives ≡ arrival (row_at rows place)
-  pub untimed : ahead.untimed ≡ untimed_before rows place
+  pub index : ℕ
+  pub timed : is_timed_at rows index ≡ true
+  pub none : (j : ℕ) → j < index → is_timed_at rows j ≡ false
+  pub arrives : ahead.arrives ≡ arrival (row_at rows index)
+  pub untimed : ahead.untimed ≡ untimed_before rows index
 
 -- a gap that begins at a row, beside those after it
 pub record IsOpenFrom (row : GivenRow) (later : List GivenRow) (gap : Gap) : Type 0 where

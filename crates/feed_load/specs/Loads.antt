@@ -13,10 +13,12 @@ use Rattle.feed_load.specs.declared.folder.Loaded.TheVariants.{Clean, Faulty, Un
 abbrev pub no_geo : Geo
 no_geo bytes = record { faults = []; features = [] }
 
--- the feed of an accepted folder, the fault list of another, or that the folder has locations.geojson
+-- the feed of an accepted folder, the fault list of another, or that it has locations.geojson
 abbrev pub IsLoaded : Folder → Loaded → Type 0
-IsLoaded folder (Clean feed) = (folder Locations ≡ Absent) × (feed_faults no_geo folder ≡ []) × (feed ≡ feed_of no_geo folder)
-IsLoaded folder (Faulty faults) = (folder Locations ≡ Absent) × (faults ≢ []) × (faults ≡ feed_faults no_geo folder)
+IsLoaded folder (Clean feed) =
+    (folder Locations ≡ Absent) × (feed_faults no_geo folder ≡ []) × (feed ≡ feed_of no_geo folder)
+IsLoaded folder (Faulty faults) =
+    (folder Locations ≡ Absent) × (faults ≢ []) × (faults ≡ feed_faults no_geo folder)
 IsLoaded folder Unbuilt = folder Locations ≡ Absent → ⊥
 
 -- told or not, a feed is sound

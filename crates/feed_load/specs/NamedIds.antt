@@ -11,7 +11,9 @@ use Prim.Native.String.{String}
 
 -- the texts of a column of distinct ids, none where there is no such table
 abbrev pub AreColumnIds : Option (Bor (List (List (List ℕ)))) → List ℕ → List (List ℕ) → Type 0
-AreColumnIds table column ids = (name : String) → column ≡ codes name → AreIds (map (λ r. r name) (records_in table)) → ids ≡ map (λ r. r name) (records_in table)
+AreColumnIds table column ids =
+    (name : String) → column ≡ codes name → AreIds (map (λ r. r name) (records_in table))
+    → ids ≡ map (λ r. r name) (records_in table)
 
 -- the ids are those of the tables
 pub record AreIdsOf (ids : FeedIds) (tables : Tables) : Type 0 where

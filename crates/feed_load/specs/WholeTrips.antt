@@ -1,7 +1,7 @@
--- The trips of the feed of a folder without locations.geojson, and how they come of the records of the tables.
-use Rattle.std.specs.Prelude.{◌≡◌, ◌⊎◌, ℕ, true, false, ◌<◌, IsSome, List, [], ◌∷◌, ◌++◌, All, AllPairs, Option, IsPermutation, filter, get_or, length, map}
+-- The trips of the feed of a folder without locations.geojson, and how they come of the records of
+-- the tables.
+use Rattle.std.specs.Prelude.{◌≡◌, ◌⊎◌, ℕ, ◌==◌, true, false, not, ◌<◌, IsSome, List, [], All, AllPairs, Option, IsPermutation, filter, get_or, length, map}
 use Rattle.std.specs.Borrow.{Bor}
-use Rattle.std.specs.List.{list_any}
 use Rattle.std.specs.List.Sorted.{IsNonDecreasingBy}
 use Rattle.std.specs.Str.{bytes_eq}
 use Rattle.flex_model.specs.declared.fault.InputFile.TheVariants.{Trips, StopTimes, Locations, Frequencies}
@@ -12,15 +12,14 @@ use Rattle.feed_meaning.specs.FeedLinks.{Tables, is_before}
 use Rattle.feed_meaning.specs.FeedRules.{sequence}
 use Rattle.feed_meaning.specs.Rules.{Values, is_bad}
 use Rattle.feed_rules.specs.Links.{records_in}
-use Rattle.feed_load.specs.Columns.{place_among}
-use Rattle.feed_load.specs.Drafts.{draft_of, row_with}
+use Rattle.feed_load.specs.Drafts.{row_with}
 use Rattle.feed_load.specs.LinearTimes.{AreFilled, row_at}
 use Rattle.feed_load.specs.NamedIds.{AreIdsOf}
 use Rattle.feed_load.specs.TableValues.{values_in}
 use Rattle.feed_load.specs.declared.drafts.Draft.{Draft}
 use Rattle.feed_load.specs.declared.named_ids.FeedIds.{FeedIds}
 use Rattle.feed_load.specs.declared.linear_times.GivenRow.{GivenRow}
-use Rattle.feed_load.specs.declared.whole_trips.OpenTrip.{OpenTrip}
+use Rattle.feed_load.specs.declared.open_trips.OpenTrip.{OpenTrip}
 
 -- a record with a number, and times that are times where they are given
 pub record IsTripRecord (r : Values) : Type 0 where
@@ -31,38 +30,29 @@ pub record IsTripRecord (r : Values) : Type 0 where
 -- What an accepted folder makes sure of: of two records of one trip one comes before the other.
 pub record AreTripRecords (stop_times : List Values) : Type 0 where
   pub each : All IsTripRecord stop_times
-  pub ordered : (trip : List ℕ) → AllPairs (λ a b. (is_before a b ≡ true) ⊎ (is_before b a ≡ true)) (filter (λ s. bytes_eq trip (s "trip_id")) stop_times)
+  pub ordered : (trip : List ℕ)
+      → AllPairs (λ a b. (is_before a b ≡ true) ⊎ (is_before b a ≡ true))
+      (filter (λ s. bytes_eq trip (s "trip_id")) stop_times)
 
--- the tables' records are those of the files, the ids stand for the records that trips name, and there are no zones
-pub record AreTripTables (of_trips of_stop_times : List (List (List ℕ))) (of_frequencies : Option (Bor (List (List (List ℕ))))) (ids : FeedIds) (tables : Tables) : Type 0 where
+-- the tables' records are those of the files, the ids stand for the records that trips name, and
+-- there are no zones
+pub record AreTripTables (of_trips of_stop_times : List (List (List ℕ)))
+    (of_frequencies : Option (Bor (List (List (List ℕ)))))
+    (ids : FeedIds) (tables : Tables) : Type 0 where
   pub trips : tables Trips ≡ values_in of_trips
   pub stop_times : tables StopTimes ≡ values_in of_stop_times
   pub frequencies : tables Frequencies ≡ records_in of_frequencies
   pub named : AreIdsOf ids tables
   pub no_zones : tables Locations ≡ []
 
--- ---- a trip on the way
-
--- a trip with these records, beside the ids of the services and of the trips that frequencies.txt names
-abbrev pub open_trip_by : List (List ℕ) → List (List ℕ) → List Draft → List ℕ → List ℕ → OpenTrip
-open_trip_by service_ids frequent drafts id service = record { id = id; service = place_among service_ids service; frequent = list_any (bytes_eq id) frequent; drafts = drafts }
-
-abbrev pub open_trip_with : List (List ℕ) → List (List ℕ) → List Draft → Values → OpenTrip
-open_trip_with service_ids frequent drafts r = open_trip_by service_ids frequent drafts (r "trip_id") (r "service_id")
-
--- a trip with its records as they stand in the file
-abbrev pub open_trip : FeedIds → List (List ℕ) → List Values → Values → OpenTrip
-open_trip ids frequent stop_times r =
-    open_trip_with ids.services frequent (map (draft_of ids) (filter (λ s. bytes_eq (r "trip_id") (s "trip_id")) stop_times)) r
-
--- a trip with one more record
-abbrev pub with_draft : Draft → OpenTrip → OpenTrip
-with_draft draft trip = record trip { drafts = trip.drafts ++ draft ∷ [] }
+-- ---- a trip with its records in order
 
 -- the rows of records with these times, one by one
-pub record AreRowsWith (drafts : List Draft) (times : List GivenRow) (rows : List Row) : Type 0 where
+pub record AreRowsWith
+    (drafts : List Draft) (times : List GivenRow) (rows : List Row) : Type 0 where
   pub many : length rows ≡ length drafts
-  pub each : (i : ℕ) (row : Row) (draft : Draft) → i < length drafts → get_or rows i row ≡ row_with (get_or drafts i draft) (row_at times i)
+  pub each : (i : ℕ) (row : Row) (draft : Draft) → i < length drafts
+      → get_or rows i row ≡ row_with (get_or drafts i draft) (row_at times i)
 
 -- the rows of records whose times are filled
 pub record AreRowsOf (drafts : List Draft) (rows : List Row) : Type 0 where
@@ -70,11 +60,12 @@ pub record AreRowsOf (drafts : List Draft) (rows : List Row) : Type 0 where
   pub filled : AreFilled (map (λ draft. draft.given) drafts) times
   pub are : AreRowsWith drafts times rows
 
--- the trip with its records by their numbers
+-- the trip with its records of stop_times.txt by their numbers, and its repeats as they stand
 pub record IsWhole (open_trip : OpenTrip) (trip : Trip) : Type 0 where
   pub id : trip.id ≡ open_trip.id
   pub service : trip.service ≡ open_trip.service
-  pub frequent : trip.frequent ≡ open_trip.frequent
+  pub frequent : trip.frequent ≡ not (length open_trip.repeats == 0)
+  pub repeats : trip.repeats ≡ open_trip.repeats
   pub sorted : List Draft
   pub moved : IsPermutation open_trip.drafts sorted
   pub rising : IsNonDecreasingBy (λ draft. draft.sequence) sorted

@@ -24,7 +24,8 @@ pub(crate) enum Judged<'a> {
 
 // The tables that a feed is read from. A folder without faults has those that are needed.
 fn found_tables(raw: &RawFeed) -> Option<FeedTables<'_>>
-    ensures { (folder : Folder) → ReadsFolder raw.now folder → LacksLocations folder → feed_faults no_geo folder ≡ [] → AreFound folder result }
+    ensures { (folder : Folder) → ReadsFolder raw.now folder → LacksLocations folder
+        → feed_faults no_geo folder ≡ [] → AreFound folder result }
 {
     let stops = raw.table(InputFile::Stops)?;
     let trips = raw.table(InputFile::Trips)?;
@@ -45,10 +46,11 @@ fn found_tables(raw: &RawFeed) -> Option<FeedTables<'_>>
 
 /// Judges a folder by its tables: the tables where it has no faults, else its fault list.
 pub(crate) fn judge(alloc: Global, raw: &RawFeed) -> Result<Judged<'_>, NoMemory>
-    ensures { IfOk result (λ judged. (folder : Folder) → ReadsFolder raw.now folder → LacksLocations folder → IsJudged folder judged) }
+    ensures { IfOk result (λ judged. (folder : Folder)
+        → ReadsFolder raw.now folder → LacksLocations folder → IsJudged folder judged) }
 {
     let found = faults(alloc, raw)?;
-    if !found.as_slice().is_empty() {
+    if !found.is_empty() {
         return Ok(Judged::Faulty(found));
     }
     match found_tables(raw) {

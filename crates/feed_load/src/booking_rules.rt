@@ -1,24 +1,20 @@
 // The booking rules of booking_rules.txt.
 
 ghost use Rattle.std.specs.Prelude.{◌≡◌, All, IfOk, map};
-ghost use Rattle.flex_model.specs.declared.fault.InputFile.TheVariants as Files;
+ghost use Rattle.flex_model.specs.declared.fault.InputFile.TheVariants as InputFiles;
 ghost use Rattle.feed_tables.specs.Records.{header_of, rows_of};
 ghost use Rattle.feed_meaning.specs.FeedLinks.{Tables};
 ghost use Rattle.feed_meaning.specs.FeedValue as Value;
 ghost use Rattle.feed_rules.specs.Links.{records_in};
 ghost use Rattle.feed_load.specs.Columns.{place_among};
 ghost use Rattle.feed_load.specs.BookingColumns as Columns;
-ghost use Rattle.feed_load.specs.BookingColumns.{HasCounts, notice_at, number_within, opening_at, prior_by, rule_at, start_at};
+ghost use Rattle.feed_load.specs.BookingColumns.{HasCounts, notice_at, opening_at, prior_by, rule_at, start_at};
 
-use crate::fields::text_of;
+use crate::fields::{number_of, seconds_of, text_of};
 use feed_meaning::{Ids, is_given, is_text, value};
 use feed_tables::{RowView, Table};
-use field_text::{read_count, read_time};
 use flex_model::{Listed, NoMemory, Notice, Prior, Rule, SameDay};
 use std::alloc::Global;
-
-// The greatest number that is kept.
-const MOST_NUMBER: u64 = 4_294_967_295;
 
 /// The columns of booking_rules.txt.
 #[derive(Clone, Copy)]
@@ -59,26 +55,6 @@ fn rule_columns(table: &Table) -> RuleColumns
     }
 }
 
-// A number that fits 32 bits, and 0 where the text has none.
-fn number_of(text: &str) -> u32
-    ensures { result ≡ number_within text.now }
-{
-    match read_count(text, MOST_NUMBER) {
-        Ok(number) => number as u32,
-        Err(_) => 0,
-    }
-}
-
-// The seconds of a time, and 0 where the text has none.
-fn seconds_of(text: &str) -> u32
-    ensures { result ≡ Value.seconds text.now }
-{
-    match read_time(text) {
-        Ok(seconds) => seconds,
-        Err(_) => 0,
-    }
-}
-
 // A time of an earlier day.
 fn prior_of(day: &str, time: &str) -> Prior
     ensures { result ≡ prior_by day.now time.now }
@@ -114,7 +90,7 @@ fn opening_of(row: &RowView<'_>, columns: RuleColumns) -> SameDay
     }
 }
 
-// The place of a service, where it is named.
+// The index of a service, where it is named.
 fn service_named(text: &str, service_ids: &Ids<'_>) -> Option<u32>
     ensures { result ≡ Value.index_if_given (place_among service_ids.now) text.now }
 {
@@ -167,7 +143,10 @@ fn rule_of(
 
 // The booking rules of a table, in the order of the file.
 fn rules_in(alloc: Global, table: &Table, service_ids: &Ids<'_>) -> Result<Listed<Rule>, NoMemory>
-    ensures { IfOk result (λ rules. rules ≡ map (λ row. rule_at service_ids.now (Columns.rule_columns (header_of table.now)) row.fields) (rows_of table.now)) }
+    ensures { IfOk result (λ rules. rules
+        ≡ map
+        (λ row. rule_at service_ids.now (Columns.rule_columns (header_of table.now)) row.fields)
+        (rows_of table.now)) }
 {
     let columns = rule_columns(table);
     let mut rules = Listed::new(alloc);
@@ -177,16 +156,18 @@ fn rules_in(alloc: Global, table: &Table, service_ids: &Ids<'_>) -> Result<Liste
     Ok(rules)
 }
 
-/// The booking rules of booking_rules.txt in the order of the file, each with the place of its service among the ids of the
-/// services.
+/// The booking rules of booking_rules.txt in the order of the file, each with the index of its
+/// service among the ids of the services.
 pub(crate) fn rules_of(
     alloc: Global,
     booking_rules: Option<&Table>,
     service_ids: &Ids<'_>,
 ) -> Result<Listed<Rule>, NoMemory>
     requires { All HasCounts (records_in booking_rules) }
-    ensures { IfOk result (λ rules. (tables : Tables) → tables Files.BookingRules ≡ records_in booking_rules.entry
-        → Value.service_ids tables ≡ service_ids.now → rules ≡ map (Value.rule_of tables) (tables Files.BookingRules)) }
+    ensures { IfOk result (λ rules. (tables : Tables)
+        → tables InputFiles.BookingRules ≡ records_in booking_rules.entry
+        → Value.service_ids tables ≡ service_ids.now
+        → rules ≡ map (Value.rule_of tables) (tables InputFiles.BookingRules)) }
 {
     match booking_rules {
         Some(table) => rules_in(alloc, table, service_ids),

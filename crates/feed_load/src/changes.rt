@@ -7,7 +7,7 @@ ghost use Rattle.feed_tables.specs.Records.{header_of};
 ghost use Rattle.feed_meaning.specs.FeedLinks.{Tables};
 ghost use Rattle.feed_meaning.specs.FeedValue as Value;
 ghost use Rattle.feed_meaning.specs.FeedValue.{change_before, is_change, rising};
-ghost use Rattle.feed_meaning.specs.Rules as Words;
+ghost use Rattle.feed_meaning.specs.Rules;
 ghost use Rattle.feed_meaning.specs.Tables.{values_of};
 ghost use Rattle.feed_rules.specs.Links.{records_in};
 ghost use Rattle.feed_load.specs.ChangeColumns as Columns;
@@ -18,11 +18,9 @@ ghost use Rattle.feed_load.specs.TableValues.{values_in};
 use feed_meaning::{Ids, is_given, is_text, value};
 use feed_tables::{RowView, Table};
 use field_text::read_count;
+use flex_model::limits::GREATEST_CHANGE;
 use flex_model::{ChangeKind, ChangeRow, Listed, NoMemory, Stop};
 use std::alloc::Global;
-
-// A day in seconds, the greatest min_transfer_time.
-const MOST_SECONDS: u64 = 86_400;
 
 /// The columns of transfers.txt that say which changes there are.
 #[derive(Clone, Copy)]
@@ -68,9 +66,10 @@ fn is_passed_over(row: &RowView<'_>, columns: ChangeColumns) -> bool
 
 // The seconds of a field, 0 where it is empty.
 fn seconds_of(text: &str) -> u32
-    ensures { Words.is_bad (Grammars.count 86400) text.now ≡ false → result ≡ Grammars.number text.now }
+    ensures { Rules.is_bad (Grammars.count 86400) text.now ≡ false
+        → result ≡ Grammars.number text.now }
 {
-    match read_count(text, MOST_SECONDS) {
+    match read_count(text, GREATEST_CHANGE) {
         Ok(seconds) => seconds as u32,
         Err(_) => 0,
     }
@@ -91,11 +90,12 @@ fn kind_of(kind: &str, seconds: &str) -> Option<ChangeKind>
 
 // The number of the stop with an id, where one can board there.
 fn boarding_stop(text: &str, stops: &Listed<Stop>, stop_ids: &Ids<'_>) -> Option<u32>
-    ensures { (tables : Tables) → AreStopsOf stops.now stop_ids.now tables → result ≡ boarding_stop_at tables text.now }
+    ensures { (tables : Tables) → AreStopsOf stops.now stop_ids.now tables
+        → result ≡ boarding_stop_at tables text.now }
 {
-    let place = stop_ids.index_of(text)?;
-    let stop = stops.as_slice().get(place as usize)?;
-    if stop.boards { Some(place) } else { None }
+    let index = stop_ids.index_of(text)?;
+    let stop = stops.get(index as usize)?;
+    if stop.boards { Some(index) } else { None }
 }
 
 // The change of a record, where it gives one.
@@ -105,8 +105,10 @@ fn change_of(
     stops: &Listed<Stop>,
     stop_ids: &Ids<'_>,
 ) -> Option<ChangeRow>
-    ensures { (tables : Tables) (header : List (List ℕ)) → AreStopsOf stops.now stop_ids.now tables → columns ≡ Columns.change_columns header
-        → HasSoundSeconds (values_of header row.now.fields) → result ≡ given_change tables (values_of header row.now.fields) }
+    ensures { (tables : Tables) (header : List (List ℕ))
+        → AreStopsOf stops.now stop_ids.now tables → columns ≡ Columns.change_columns header
+        → HasSoundSeconds (values_of header row.now.fields)
+        → result ≡ given_change tables (values_of header row.now.fields) }
 {
     if is_passed_over(row, columns) {
         return None;
@@ -124,8 +126,10 @@ fn unordered_changes(
     stops: &Listed<Stop>,
     stop_ids: &Ids<'_>,
 ) -> Result<Vec<ChangeRow>, NoMemory>
-    ensures { (tables : Tables) → AreStopsOf stops.now stop_ids.now tables → All HasSoundSeconds (values_in transfers.now)
-        → IfOk result (λ changes. changes.items ≡ map (Value.change_of tables) (filter (is_change tables) (values_in transfers.now))) }
+    ensures { (tables : Tables) → AreStopsOf stops.now stop_ids.now tables
+        → All HasSoundSeconds (values_in transfers.now)
+        → IfOk result (λ changes. changes.items
+        ≡ map (Value.change_of tables) (filter (is_change tables) (values_in transfers.now))) }
 {
     let columns = change_columns(transfers);
     let mut changes = Vec::new(alloc);
@@ -140,23 +144,27 @@ fn unordered_changes(
 
 // The changes rising by their two stops.
 fn in_order(mut changes: Vec<ChangeRow>) -> Result<Listed<ChangeRow>, NoMemory>
-    ensures { AllPairs (λ a b. (change_before a b ≡ true) ⊎ (change_before b a ≡ true)) changes.items
+    ensures { AllPairs
+        (λ a b. (change_before a b ≡ true) ⊎ (change_before b a ≡ true)) changes.items
         → IfOk result (λ ordered. ordered ≡ rising change_before changes.items) }
 {
     changes.sort_by_key(|change| (change.from, change.to))?;
     Ok(Listed::from_vec(changes))
 }
 
-/// The rules for changing between stops where one can board, of transfers.txt if there is one: the records of type 2 and
-/// 3 that name neither a route nor a trip, rising by their two stops. It goes over the records once and sorts the changes.
+/// The rules for changing between stops where one can board, of transfers.txt if there is one: the
+/// records of type 2 and 3 that name neither a route nor a trip, rising by their two stops. It goes
+/// over the records once and sorts the changes.
 pub(crate) fn changes_of(
     alloc: Global,
     transfers: Option<&Table>,
     stops: &Listed<Stop>,
     stop_ids: &Ids<'_>,
 ) -> Result<Listed<ChangeRow>, NoMemory>
-    ensures { (tables : Tables) → tables Transfers ≡ records_in transfers.entry → AreStopsOf stops.now stop_ids.now tables → AreSoundChanges tables
-        → IfOk result (λ changes. changes ≡ rising change_before (map (Value.change_of tables) (filter (is_change tables) (tables Transfers)))) }
+    ensures { (tables : Tables) → tables Transfers ≡ records_in transfers.entry
+        → AreStopsOf stops.now stop_ids.now tables → AreSoundChanges tables
+        → IfOk result (λ changes. changes ≡ rising change_before
+        (map (Value.change_of tables) (filter (is_change tables) (tables Transfers)))) }
 {
     let Some(table) = transfers else {
         return Ok(Listed::new(alloc));

@@ -4,7 +4,7 @@ ghost use Rattle.std.specs.Prelude.{◌≡◌, unwrap_or};
 ghost use Rattle.feed_tables.specs.Records.{header_of};
 ghost use Rattle.field_text.specs.Grammars;
 ghost use Rattle.feed_load.specs.Columns as Columns;
-ghost use Rattle.feed_load.specs.Drafts as Words;
+ghost use Rattle.feed_load.specs.Drafts as Drafted;
 ghost use Rattle.feed_load.specs.Drafts.{draft_at};
 
 use crate::fields::sequence_of;
@@ -31,7 +31,8 @@ pub(crate) struct DraftColumns {
     drop_off_rule: Option<u32>,
 }
 
-/// A record of a trip, whose times may be missing yet. Its start and its end are those of its window, where it has one.
+/// A record of a trip, whose times may be missing yet. Its start and its end are those of its
+/// window, where it has one.
 #[derive(Clone, Copy, Debug)]
 pub(crate) struct Draft {
     pub(crate) sequence: u32,
@@ -45,7 +46,7 @@ pub(crate) struct Draft {
 
 /// The columns of a table.
 pub(crate) fn draft_columns(table: &Table) -> DraftColumns
-    ensures { result ≡ Words.draft_columns (header_of table.now) }
+    ensures { result ≡ Drafted.draft_columns (header_of table.now) }
 {
     DraftColumns {
         sequence: table.column("stop_sequence"),
@@ -69,7 +70,7 @@ fn time(text: &str) -> Option<u32>
     read_time(text).ok()
 }
 
-// The place of an id among these, 0 where it isn't among them.
+// The index of an id among these, 0 where it isn't among them.
 fn place_among(ids: &Ids<'_>, text: &str) -> u32
     ensures { result ≡ Columns.place_among ids.now text.now }
 {
@@ -78,7 +79,7 @@ fn place_among(ids: &Ids<'_>, text: &str) -> u32
 
 // What a record names: a stop or a group, else the first zone.
 fn spot_of(stop: &str, group: &str, ids: &FeedIds<'_>) -> Spot
-    ensures { result ≡ Words.spot_among ids.now.stops ids.now.groups stop.now group.now }
+    ensures { result ≡ Drafted.spot_among ids.now.stops ids.now.groups stop.now group.now }
 {
     if is_given(stop) {
         Spot::Stop(place_among(&ids.stops, stop))
@@ -91,7 +92,7 @@ fn spot_of(stop: &str, group: &str, ids: &FeedIds<'_>) -> Spot
 
 // How one boards or alights, by the type and beside a window.
 fn way_of(kind: &str, has_window: bool, rule: &str, rules: &Ids<'_>) -> Way
-    ensures { result ≡ Words.way_among rules.now has_window kind.now rule.now }
+    ensures { result ≡ Drafted.way_among rules.now has_window kind.now rule.now }
 {
     if is_text(kind, "1") {
         return Way::No;
@@ -106,7 +107,7 @@ fn way_of(kind: &str, has_window: bool, rule: &str, rules: &Ids<'_>) -> Way
     }
 }
 
-/// A record of a trip, which names what it names by its place among the ids.
+/// A record of a trip, which names what it names by its index among the ids.
 pub(crate) fn draft_of(row: &RowView<'_>, columns: DraftColumns, ids: &FeedIds<'_>) -> Draft
     ensures { result ≡ draft_at ids.now columns row.now.fields }
 {
@@ -138,7 +139,7 @@ pub(crate) fn draft_of(row: &RowView<'_>, columns: DraftColumns, ids: &FeedIds<'
 
 /// The record with these times, of which one stands for both.
 pub(crate) fn row_with(draft: &Draft, times: GivenRow) -> Row
-    ensures { result ≡ Words.row_with draft.now times }
+    ensures { result ≡ Drafted.row_with draft.now times }
 {
     let timing = if draft.given.window {
         Timing::Window {

@@ -1,6 +1,6 @@
 // The files of a feed, fetched.
 
-ghost use Rattle.std.specs.Prelude.{◌≡◌, ◌≤◌, IfOk, IfSome, IsErrOf};
+ghost use Rattle.std.specs.Prelude.{◌≡◌, ◌≢◌, ◌≤◌, Err, IfOk, IfSome, IsErrOf};
 ghost use Rattle.flex_io.specs.Outside.{HasFailed};
 ghost use Rattle.feed_load.specs.Fetched.{told_feed};
 
@@ -33,11 +33,21 @@ pub(crate) fn fetch_feed<F: Files>(
     files: &mut F,
     folder: &str,
 ) -> Result<FeedBytes, LoadError>
-    ensures fetched { IfSome (F.told files.old) (λ told. IfOk result (λ bytes. bytes ≡ told_feed told folder.now)) }
+    // Where files are told, the files are the told ones.
+    ensures fetched { IfSome (F.told files.old) (λ told.
+        IfOk result (λ bytes. bytes ≡ told_feed told folder.now)) }
+
     ensures told { F.told files.new ≡ F.told files.old }
     ensures counted { F.faults files.old ≤ F.faults files.new }
-    ensures steady { F.is_steady files.old → F.is_steady files.new × (F.faults files.new ≡ F.faults files.old) }
-    ensures read_fault { IsErrOf result LoadError.ReadFault → HasFailed (F.faults files.old) (F.faults files.new) }
+    ensures steady { F.is_steady files.old
+        → F.is_steady files.new × (F.faults files.new ≡ F.faults files.old) }
+
+    // A read fault is answered only where it was counted in this call, or the count stands at its
+    // last value, and a fault that was counted is answered.
+    ensures read_fault { IsErrOf result LoadError.ReadFault
+        → HasFailed (F.faults files.old) (F.faults files.new) }
+    ensures answered { result ≢ Err LoadError.ReadFault
+        → F.faults files.new ≡ F.faults files.old }
 {
     let mut bytes = FeedBytes::new();
     for file in FEED_FILES {

@@ -4,18 +4,15 @@ ghost use Rattle.std.specs.Prelude.{◌≡◌, IfOk, pos, unwrap_or};
 ghost use Rattle.feed_meaning.specs.FeedRules.{sequence};
 ghost use Rattle.feed_meaning.specs.FeedValue.{coordinate};
 ghost use Rattle.feed_meaning.specs.FeedValue as Value;
+ghost use Rattle.feed_load.specs.Columns.{number_within};
 
-use field_text::{read_count, read_date, read_degree};
+use field_text::{read_count, read_date, read_degree, read_time};
+use flex_model::limits::{GREATEST_LATITUDE, GREATEST_LONGITUDE, GREATEST_SEQUENCE};
 use flex_model::{NoMemory, Text};
 use std::alloc::Global;
 
-// 180 and 90 degrees, in units of 10^-15 degree.
-const MOST_LONGITUDE: i64 = 180_000_000_000_000_000;
-
-const MOST_LATITUDE: i64 = 90_000_000_000_000_000;
-
-// The greatest stop_sequence.
-const MOST_SEQUENCE: u64 = 4_294_967_294;
+// The greatest number that is kept.
+const MOST_NUMBER: u64 = 4_294_967_295;
 
 /// A text of its own.
 pub(crate) fn text_of(alloc: Global, text: &str) -> Result<Text, NoMemory>
@@ -30,7 +27,7 @@ pub(crate) fn text_of(alloc: Global, text: &str) -> Result<Text, NoMemory>
 pub(crate) fn longitude(text: &str) -> i64
     ensures { result ≡ coordinate 180 text.now }
 {
-    match read_degree(text, MOST_LONGITUDE) {
+    match read_degree(text, GREATEST_LONGITUDE) {
         Ok(degree) => degree,
         Err(_) => 0,
     }
@@ -40,7 +37,7 @@ pub(crate) fn longitude(text: &str) -> i64
 pub(crate) fn latitude(text: &str) -> i64
     ensures { result ≡ coordinate 90 text.now }
 {
-    match read_degree(text, MOST_LATITUDE) {
+    match read_degree(text, GREATEST_LATITUDE) {
         Ok(degree) => degree,
         Err(_) => 0,
     }
@@ -60,8 +57,28 @@ pub(crate) fn day(text: &str) -> i32
 pub(crate) fn sequence_of(text: &str) -> u32
     ensures { result ≡ unwrap_or (sequence text.now) 0 }
 {
-    match read_count(text, MOST_SEQUENCE) {
+    match read_count(text, GREATEST_SEQUENCE) {
         Ok(number) => number as u32,
+        Err(_) => 0,
+    }
+}
+
+/// A number that fits 32 bits, and 0 where the text has none.
+pub(crate) fn number_of(text: &str) -> u32
+    ensures { result ≡ number_within text.now }
+{
+    match read_count(text, MOST_NUMBER) {
+        Ok(number) => number as u32,
+        Err(_) => 0,
+    }
+}
+
+/// The seconds of a time, and 0 where the text has none.
+pub(crate) fn seconds_of(text: &str) -> u32
+    ensures { result ≡ Value.seconds text.now }
+{
+    match read_time(text) {
+        Ok(seconds) => seconds,
         Err(_) => 0,
     }
 }

@@ -1,6 +1,6 @@
 // Loading a feed folder.
 
-ghost use Rattle.std.specs.Prelude.{◌≡◌, ◌≤◌, IfOk, IfSome, IsErrOf};
+ghost use Rattle.std.specs.Prelude.{◌≡◌, ◌≢◌, ◌≤◌, Err, IfOk, IfSome, IsErrOf};
 ghost use Rattle.flex_io.specs.Outside.{HasFailed};
 ghost use Rattle.feed_meaning.specs.Told.{told_folder};
 ghost use Rattle.feed_rules.specs.Folders.{folder_of};
@@ -46,12 +46,23 @@ fn read_folder(alloc: Global, bytes: &FeedBytes) -> Result<Loaded, NoMemory>
 
 /// Fetches the thirteen files of the folder, each once and in their order, and reads them.
 pub fn load<F: Files>(alloc: Global, files: &mut F, folder: &str) -> Result<Loaded, LoadError>
-    ensures loaded { IfSome (F.told files.old) (λ told. IfOk result (IsLoaded (told_folder told folder.now))) }
+    // Where files are told, what is loaded is that of the told folder. Told or not, a feed is
+    // sound.
+    ensures loaded { IfSome (F.told files.old) (λ told.
+        IfOk result (IsLoaded (told_folder told folder.now))) }
     ensures sound { IfOk result IsSoundLoad }
+
     ensures told { F.told files.new ≡ F.told files.old }
     ensures counted { F.faults files.old ≤ F.faults files.new }
-    ensures steady { F.is_steady files.old → F.is_steady files.new × (F.faults files.new ≡ F.faults files.old) }
-    ensures read_fault { IsErrOf result LoadError.ReadFault → HasFailed (F.faults files.old) (F.faults files.new) }
+    ensures steady { F.is_steady files.old
+        → F.is_steady files.new × (F.faults files.new ≡ F.faults files.old) }
+
+    // A read fault is answered only where it was counted in this call, or the count stands at its
+    // last value, and a fault that was counted is answered.
+    ensures read_fault { IsErrOf result LoadError.ReadFault
+        → HasFailed (F.faults files.old) (F.faults files.new) }
+    ensures answered { result ≢ Err LoadError.ReadFault
+        → F.faults files.new ≡ F.faults files.old }
 {
     let bytes = fetch_feed(alloc, files, folder)?;
     let loaded = read_folder(alloc, &bytes)?;

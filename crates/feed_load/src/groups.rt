@@ -3,7 +3,7 @@
 ghost use Rattle.std.specs.Prelude.{◌≡◌, [], IfOk, OnOk, map};
 ghost use Rattle.std.specs.List.{AllZip};
 ghost use Rattle.flex_model.specs.SoundTimes.{AreIds};
-ghost use Rattle.flex_model.specs.declared.fault.InputFile.TheVariants as Files;
+ghost use Rattle.flex_model.specs.declared.fault.InputFile.TheVariants as InputFiles;
 ghost use Rattle.feed_meaning.specs.FeedLinks.{Tables};
 ghost use Rattle.feed_meaning.specs.FeedValue as Value;
 ghost use Rattle.feed_rules.specs.Links.{records_in};
@@ -28,7 +28,8 @@ fn memberless_group(alloc: Global, id: &str) -> Result<Group, NoMemory>
 
 // The groups without members, in the order of the file.
 fn memberless_groups(alloc: Global, table: &Table) -> Result<Vec<Group>, NoMemory>
-    ensures { IfOk result (λ groups. groups.items ≡ map (λ r. group_by (r "location_group_id") []) (values_in table.now)) }
+    ensures { IfOk result (λ groups.
+        groups.items ≡ map (λ r. group_by (r "location_group_id") []) (values_in table.now)) }
 {
     let group_id = table.column("location_group_id");
     let mut groups = Vec::new(alloc);
@@ -40,13 +41,14 @@ fn memberless_groups(alloc: Global, table: &Table) -> Result<Vec<Group>, NoMemor
 }
 
 // Adds a member at the end of a group.
-fn add_member(group: &mut Group, place: u32) -> Result<(), NoMemory>
-    ensures { OnOk result (group.new ≡ with_member place group.old) }
+fn add_member(group: &mut Group, index: u32) -> Result<(), NoMemory>
+    ensures { OnOk result (group.new ≡ with_member index group.old) }
 {
-    group.members.push(place)
+    group.members.push(index)
 }
 
-// The groups with their members as they stand in the file: one pass over the pairs, each of which goes to its group.
+// The groups with their members as they stand in the file: one pass over the pairs, each of which
+// goes to its group.
 fn unordered_groups(
     alloc: Global,
     groups: &Table,
@@ -54,7 +56,8 @@ fn unordered_groups(
     stop_ids: &Ids<'_>,
 ) -> Result<Vec<Group>, NoMemory>
     requires { AreIds (map (λ r. r "location_group_id") (values_in groups.now)) }
-    ensures { IfOk result (λ found. found.items ≡ map (unordered_group stop_ids.now (values_in pairs.now)) (values_in groups.now)) }
+    ensures { IfOk result (λ found. found.items
+        ≡ map (unordered_group stop_ids.now (values_in pairs.now)) (values_in groups.now)) }
 {
     let group_ids = ids_in(alloc, groups, "location_group_id")?;
     let group_id = pairs.column("location_group_id");
@@ -65,10 +68,10 @@ fn unordered_groups(
             continue;
         };
         let stop = value(&row, stop_id);
-        let Some(place) = stop_ids.index_of(stop) else {
+        let Some(index) = stop_ids.index_of(stop) else {
             continue;
         };
-        add_member(&mut found[group as usize], place)?;
+        add_member(&mut found[group as usize], index)?;
     }
     Ok(found)
 }
@@ -81,7 +84,8 @@ fn groups_among(
     stop_ids: &Ids<'_>,
 ) -> Result<Vec<Group>, NoMemory>
     requires { AreIds (map (λ r. r "location_group_id") (values_in groups.now)) }
-    ensures { IfOk result (λ found. found.items ≡ map (unordered_group stop_ids.now (records_in pairs.entry)) (values_in groups.now)) }
+    ensures { IfOk result (λ found. found.items
+        ≡ map (unordered_group stop_ids.now (records_in pairs.entry)) (values_in groups.now)) }
 {
     match pairs {
         Some(pairs) => unordered_groups(alloc, groups, pairs, stop_ids),
@@ -114,7 +118,8 @@ fn rising_groups(alloc: Global, groups: Vec<Group>) -> Result<Listed<Group>, NoM
     Ok(rising)
 }
 
-/// The groups of location_groups.txt in the order of the file, each with the places of its stops among the ids of the stops.
+/// The groups of location_groups.txt in the order of the file, each with the places of its stops
+/// among the ids of the stops.
 pub(crate) fn groups_of(
     alloc: Global,
     groups: Option<&Table>,
@@ -123,9 +128,11 @@ pub(crate) fn groups_of(
 ) -> Result<Listed<Group>, NoMemory>
     requires groups { AreIds (map (λ r. r "location_group_id") (records_in groups)) }
     requires stops { AreIds stop_ids.now }
-    ensures { IfOk result (λ found. (tables : Tables) → tables Files.LocationGroups ≡ records_in groups.entry
-        → tables Files.LocationGroupStops ≡ records_in group_stops.entry → map (λ r. r "stop_id") (tables Files.Stops) ≡ stop_ids.now
-        → found ≡ map (Value.group_of tables) (tables Files.LocationGroups)) }
+    ensures { IfOk result (λ found. (tables : Tables)
+        → tables InputFiles.LocationGroups ≡ records_in groups.entry
+        → tables InputFiles.LocationGroupStops ≡ records_in group_stops.entry
+        → map (λ r. r "stop_id") (tables InputFiles.Stops) ≡ stop_ids.now
+        → found ≡ map (Value.group_of tables) (tables InputFiles.LocationGroups)) }
 {
     match groups {
         Some(groups) => rising_groups(alloc, groups_among(alloc, groups, group_stops, stop_ids)?),

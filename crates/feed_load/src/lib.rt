@@ -12,7 +12,9 @@ mod folder;
 mod groups;
 mod linear_times;
 mod named_ids;
+mod open_trips;
 mod plain;
+mod repeats;
 mod stops;
 mod tables;
 mod weekly;
@@ -21,4 +23,4 @@ mod whole_trips;
 
 pub use folder::{Loaded, load};
 pub use linear_times::{GivenRow, fill_times};
-pub use plain::is_plain;
+pub use plain::is_plain_feed;

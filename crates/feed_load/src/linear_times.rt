@@ -1,10 +1,11 @@
 // The times of the rows of a trip that have none of their own.
 
 ghost use Rattle.std.specs.Prelude.{◌≡◌, ◌+◌, ◌<◌, MatchOption};
-ghost use Rattle.feed_load.specs.LinearTimes as Words;
+ghost use Rattle.feed_load.specs.LinearTimes as Linear;
 ghost use Rattle.feed_load.specs.LinearTimes.{AreFilled, HasNone, IsNext, IsOpenFrom};
 
-/// The times that a row of a trip was given, and whether it has a window, in which case it has no times.
+/// The times that a row of a trip was given, and whether it has a window, in which case it has no
+/// times.
 #[derive(Clone, Copy, Debug, PartialEq, Eq)]
 pub struct GivenRow {
     /// Whether the row has a window.
@@ -15,7 +16,7 @@ pub struct GivenRow {
     pub departs: Option<u32>,
 }
 
-/// The next row with a time after some place.
+/// The next row with a time after some index.
 #[derive(Clone, Copy)]
 struct Ahead {
     // its arrival
@@ -24,28 +25,28 @@ struct Ahead {
     untimed: usize,
 }
 
-/// Two neighbours with times, of which the first lies before some place and the second doesn't.
+/// Two neighbours with times, of which the first lies before some index and the second doesn't.
 #[derive(Clone, Copy)]
 struct Gap {
     // the departure of the first
     leaves: u32,
     // the arrival of the second
     arrives: u32,
-    // how many rows without time or window lie between them, and how many of them before the place
+    // how many rows without time or window lie between them, and how many of them before the index
     untimed: usize,
     passed: usize,
 }
 
 // Whether a row has a time and no window.
 fn is_timed(row: GivenRow) -> bool
-    ensures { result ≡ Words.is_timed row }
+    ensures { result ≡ Linear.is_timed row }
 {
     !row.window && (row.arrives.is_some() || row.departs.is_some())
 }
 
 // Whether a row has neither a time nor a window.
 fn is_untimed(row: GivenRow) -> bool
-    ensures { result ≡ Words.is_untimed row }
+    ensures { result ≡ Linear.is_untimed row }
 {
     !row.window && row.arrives.is_none() && row.departs.is_none()
 }
@@ -85,24 +86,25 @@ fn gap_from(row: GivenRow, later: &[GivenRow]) -> Option<Gap>
 // The time of the next row without time or window in a gap.
 fn time_in(gap: Gap) -> u32
     requires { gap.passed < gap.untimed }
-    ensures { result ≡ Words.share gap.leaves gap.arrives (gap.passed + 1) (gap.untimed + 1) }
+    ensures { result ≡ Linear.share gap.leaves gap.arrives (gap.passed + 1) (gap.untimed + 1) }
 {
     let length = u128::from(gap.arrives.saturating_sub(gap.leaves));
     let share = length * (gap.passed as u128 + 1) / (gap.untimed as u128 + 1);
     gap.leaves + share as u32
 }
 
-/// Fills the times of rows that have neither a time nor a window, between the departure of the nearest row with a time
-/// before them and the arrival of the nearest one after them: in equal parts, rounded down. A row that lies between no
-/// two such neighbours stays as it is. Each row is looked at twice at most.
+/// Fills the times of rows that have neither a time nor a window, between the departure of the
+/// nearest row with a time before them and the arrival of the nearest one after them: in equal
+/// parts, rounded down. A row that lies between no two such neighbours stays as it is. Each row is
+/// looked at twice at most.
 pub fn fill_times(rows: &mut [GivenRow])
     ensures { AreFilled rows.old rows.new }
 {
     let mut gap: Option<Gap> = None;
-    for place in 0..rows.len() {
-        let row = rows[place];
+    for index in 0..rows.len() {
+        let row = rows[index];
         if is_timed(row) {
-            gap = gap_from(row, &rows[place + 1..]);
+            gap = gap_from(row, &rows[index + 1..]);
         }
         if !is_untimed(row) {
             continue;
@@ -111,7 +113,7 @@ pub fn fill_times(rows: &mut [GivenRow])
             continue;
         };
         let time = time_in(open);
-        rows[place] = GivenRow {
+        rows[index] = GivenRow {
             window: false,
             arrives: Some(time),
             departs: Some(time),

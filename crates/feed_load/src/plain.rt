@@ -1,7 +1,8 @@
 // Whether a feed is plain.
 
-ghost use Rattle.std.specs.Prelude.{◌↔◌, All, IsTrue};
-ghost use Rattle.flex_model.specs.PlainFeed.{HasTimes, IsPlainFeed, IsPlainRow, IsUnbooked, NamesStop};
+ghost use Rattle.std.specs.Prelude.{◌↔◌, IsTrue};
+ghost use Rattle.flex_model.specs.PlainFeed.{IsPlainFeed, IsPlainRow, IsPlainTrip, IsUnbooked, NamesStop};
+ghost use Rattle.flex_model.specs.Ride.{HasTimes};
 
 use flex_model::{Feed, Row, Spot, Timing, Trip, Way};
 
@@ -45,10 +46,13 @@ fn is_plain_row(row: &Row) -> bool
         && is_unbooked(row.drop_off)
 }
 
-// Whether each record of a trip is plain.
+// Whether frequencies.txt doesn't name a trip, and each record of the trip is plain.
 fn is_plain_trip(trip: &Trip) -> bool
-    ensures { IsTrue result ↔ All IsPlainRow trip.now.rows }
+    ensures { IsTrue result ↔ IsPlainTrip trip.now }
 {
+    if trip.frequent {
+        return false;
+    }
     for row in trip.rows.as_slice() {
         if !is_plain_row(row) {
             return false;
@@ -57,12 +61,13 @@ fn is_plain_trip(trip: &Trip) -> bool
     true
 }
 
-/// Whether a feed has no zones, and each record of each trip has times, a stop, and ways that are none or free. It goes
-/// over the records of the trips once, and takes no memory.
-pub fn is_plain(feed: &Feed) -> bool
+/// Whether a feed has no zones, frequencies.txt names no trip, and each record of each trip has
+/// times, a stop, and ways that are none or free. It goes over the records of the trips once, and
+/// takes no memory.
+pub fn is_plain_feed(feed: &Feed) -> bool
     ensures { IsTrue result ↔ IsPlainFeed feed.now }
 {
-    if !feed.zones.as_slice().is_empty() {
+    if !feed.zones.is_empty() {
         return false;
     }
     for trip in feed.trips.as_slice() {

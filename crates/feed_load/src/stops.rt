@@ -3,7 +3,7 @@
 ghost use Rattle.std.specs.Prelude.{◌≡◌, ◌||◌, IfOk, map};
 ghost use Rattle.feed_meaning.specs.FeedValue as Value;
 ghost use Rattle.feed_meaning.specs.FeedValue.{coordinate};
-ghost use Rattle.feed_meaning.specs.Rules as Words;
+ghost use Rattle.feed_meaning.specs.Rules;
 ghost use Rattle.feed_load.specs.TableValues.{values_in};
 
 use crate::fields::{latitude, longitude, text_of};
@@ -23,7 +23,7 @@ fn stop_of(
     ensures { IfOk result (λ stop. stop ≡ record {
       id = id.now;
       at = record { lon = coordinate 180 lon.now; lat = coordinate 90 lat.now };
-      boards = Words.is_empty location_type.now || Words.is_text location_type.now "0";
+      boards = Rules.is_empty location_type.now || Rules.is_text location_type.now "0";
     }) }
 {
     Ok(Stop {

@@ -1,7 +1,7 @@
 // The services of both calendars.
 
 ghost use Rattle.std.specs.Prelude.{◌≡◌, IfOk, OnOk, fold, map};
-ghost use Rattle.flex_model.specs.declared.fault.InputFile.TheVariants as Files;
+ghost use Rattle.flex_model.specs.declared.fault.InputFile.TheVariants as InputFiles;
 ghost use Rattle.flex_model.specs.SoundTimes.{AreIds};
 ghost use Rattle.feed_meaning.specs.FeedLinks.{Tables};
 ghost use Rattle.feed_meaning.specs.FeedValue as Value;
@@ -20,7 +20,8 @@ use std::alloc::Global;
 
 // Notes the services that a table names.
 fn note_services<'a>(ids: &mut Ids<'a>, table: &'a Table) -> Result<(), NoMemory>
-    ensures { OnOk result (ids.new ≡ fold noted ids.old (map (λ r. r "service_id") (values_in table.now))) }
+    ensures { OnOk result (ids.new
+        ≡ fold noted ids.old (map (λ r. r "service_id") (values_in table.now))) }
 {
     let service_id = table.column("service_id");
     for row in table.rows() {
@@ -31,7 +32,8 @@ fn note_services<'a>(ids: &mut Ids<'a>, table: &'a Table) -> Result<(), NoMemory
 
 // Notes the services that a table names, if there is one.
 fn note_any_services<'a>(ids: &mut Ids<'a>, table: Option<&'a Table>) -> Result<(), NoMemory>
-    ensures { OnOk result (ids.new ≡ fold noted ids.old (map (λ r. r "service_id") (records_in table.entry))) }
+    ensures { OnOk result (ids.new
+        ≡ fold noted ids.old (map (λ r. r "service_id") (records_in table.entry))) }
 {
     match table {
         Some(table) => note_services(ids, table),
@@ -39,7 +41,8 @@ fn note_any_services<'a>(ids: &mut Ids<'a>, table: Option<&'a Table>) -> Result<
     }
 }
 
-/// The ids of the services of both calendars, each once: those of calendar.txt and then those of calendar_dates.txt.
+/// The ids of the services of both calendars, each once: those of calendar.txt and then those of
+/// calendar_dates.txt.
 pub(crate) fn service_ids<'a>(
     alloc: Global,
     calendar: Option<&'a Table>,
@@ -47,8 +50,9 @@ pub(crate) fn service_ids<'a>(
 ) -> Result<Ids<'a>, NoMemory>
     requires calendar { NameServices calendar }
     requires dates { NameServices dates }
-    ensures found { IfOk result (λ ids. (tables : Tables) → tables Files.Calendar ≡ records_in calendar.entry
-        → tables Files.CalendarDates ≡ records_in dates.entry → ids ≡ Value.service_ids tables) }
+    ensures found { IfOk result (λ ids. (tables : Tables)
+        → tables InputFiles.Calendar ≡ records_in calendar.entry
+        → tables InputFiles.CalendarDates ≡ records_in dates.entry → ids ≡ Value.service_ids tables) }
     ensures distinct { IfOk result AreIds }
 {
     let mut ids = Ids::new(alloc);
@@ -78,7 +82,8 @@ fn dated_services(
     ids: &Ids<'_>,
 ) -> Result<Vec<Service>, NoMemory>
     requires { AreIds ids.now }
-    ensures { IfOk result (λ services. services.items ≡ map (service_of (calendars (records_in calendar.entry) (values_in dates.now))) ids.now) }
+    ensures { IfOk result (λ services. services.items
+        ≡ map (service_of (calendars (records_in calendar.entry) (values_in dates.now))) ids.now) }
 {
     let service_id = dates.column("service_id");
     let date = dates.column("date");
@@ -88,16 +93,16 @@ fn dated_services(
         let id = value(&row, service_id);
         let kind = value(&row, exception_type);
         let day = day(value(&row, date));
-        let Some(place) = ids.index_of(id) else {
+        let Some(index) = ids.index_of(id) else {
             continue;
         };
-        add_exception(&mut services[place as usize], kind, day)?;
+        add_exception(&mut services[index as usize], kind, day)?;
     }
     Ok(services)
 }
 
-/// The services with these ids: each with its week and its days by its first record in calendar.txt, and with its
-/// dates of calendar_dates.txt in the order of the file.
+/// The services with these ids: each with its week and its days by its first record in
+/// calendar.txt, and with its dates of calendar_dates.txt in the order of the file.
 pub(crate) fn all_services(
     alloc: Global,
     calendar: Option<&Table>,
@@ -105,8 +110,10 @@ pub(crate) fn all_services(
     ids: &Ids<'_>,
 ) -> Result<Listed<Service>, NoMemory>
     requires { AreIds ids.now }
-    ensures { IfOk result (λ services. (tables : Tables) → tables Files.Calendar ≡ records_in calendar.entry
-        → tables Files.CalendarDates ≡ records_in dates.entry → services ≡ map (service_of tables) ids.now) }
+    ensures { IfOk result (λ services. (tables : Tables)
+        → tables InputFiles.Calendar ≡ records_in calendar.entry
+        → tables InputFiles.CalendarDates ≡ records_in dates.entry
+        → services ≡ map (service_of tables) ids.now) }
 {
     let services = match dates {
         Some(dates) => dated_services(alloc, calendar, dates, ids)?,

@@ -93,11 +93,12 @@ fn bare_service(alloc: Global, id: &str) -> Result<Service, NoMemory>
 
 // A service without a week and without dates for each id.
 fn bare_services(alloc: Global, ids: &Ids<'_>) -> Result<Vec<Service>, NoMemory>
-    ensures { IfOk result (λ services. services.items ≡ map (service_of (calendars [] [])) ids.now) }
+    ensures { IfOk result (λ services.
+        services.items ≡ map (service_of (calendars [] [])) ids.now) }
 {
     let mut services = Vec::new(alloc);
-    for place in 0..ids.len() {
-        let Some(id) = ids.at(place) else {
+    for index in 0..ids.len() {
+        let Some(id) = ids.at(index) else {
             continue;
         };
         services.push(bare_service(alloc, id)?)?;
@@ -112,7 +113,8 @@ fn services_in_weeks(
     ids: &Ids<'_>,
 ) -> Result<Vec<Service>, NoMemory>
     requires { AreIds ids.now }
-    ensures { IfOk result (λ services. services.items ≡ map (service_of (calendars (values_in calendar.now) [])) ids.now) }
+    ensures { IfOk result (λ services.
+        services.items ≡ map (service_of (calendars (values_in calendar.now) [])) ids.now) }
 {
     let service_id = calendar.column("service_id");
     let columns = week_columns(calendar);
@@ -124,22 +126,24 @@ fn services_in_weeks(
         if is_repeated {
             continue;
         }
-        let Some(place) = ids.index_of(id) else {
+        let Some(index) = ids.index_of(id) else {
             continue;
         };
-        set_week(&mut services[place as usize], &row, columns);
+        set_week(&mut services[index as usize], &row, columns);
     }
     Ok(services)
 }
 
-/// The services with these ids and their weeks, without dates: a service that calendar.txt doesn't name has none.
+/// The services with these ids and their weeks, without dates: a service that calendar.txt doesn't
+/// name has none.
 pub(crate) fn weekly_services(
     alloc: Global,
     calendar: Option<&Table>,
     ids: &Ids<'_>,
 ) -> Result<Vec<Service>, NoMemory>
     requires { AreIds ids.now }
-    ensures { IfOk result (λ services. services.items ≡ map (service_of (calendars (records_in calendar.entry) [])) ids.now) }
+    ensures { IfOk result (λ services.
+        services.items ≡ map (service_of (calendars (records_in calendar.entry) [])) ids.now) }
 {
     match calendar {
         Some(calendar) => services_in_weeks(alloc, calendar, ids),

@@ -9,7 +9,7 @@ ghost use Rattle.flexplan.specs.Words.{InputPaths, paths};
 
 use crate::status::Status;
 use crate::words::Paths;
-use feed_load::{Loaded, is_plain, load};
+use feed_load::{Loaded, is_plain_feed, load};
 use feed_meaning::{byte_limit, fetch_file};
 use flex_io::{Files, LoadError};
 use flex_model::{Fault, Feed, InputFile, Listed, Query, Times};
@@ -49,7 +49,7 @@ fn are_direct(queries: &[Query]) -> bool
 fn is_planned_for(feed: &Feed, times: &Times, queries: &Listed<Query>) -> bool
     ensures { IsTrue result ↔ IsPlannedFor feed.now times.now queries.now }
 {
-    is_plain(feed) && times.walks.is_empty() && are_direct(queries.as_slice())
+    is_plain_feed(feed) && times.walks.is_empty() && are_direct(queries.as_slice())
 }
 
 // Reads the queries of input whose feed and times are accepted.

@@ -15,7 +15,7 @@ pub rules_of-requires : goal.rules_of-requires
 rules_of-requires c = c.requires.counts
 
 pub all_trips-requires : goal.all_trips-requires
-all_trips-requires c = record { ids = c.requires.trip_ids; records = c.requires.records }
+all_trips-requires c = record { ids = c.requires.trip_ids; records = c.requires.records; headways = c.requires.headways }
 
 pub returns : goal.returns
 returns c =

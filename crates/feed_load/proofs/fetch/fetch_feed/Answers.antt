@@ -10,6 +10,6 @@ loop-file-preserved g c = record {
       ap (take (c.loop-file.file-index + 1)) c.set.ensures
       ∙ set-next (told_folder told c.args.folder.now) c.loop-file.bytes c.loop-file.file-index _ c.in_ok-fetch_input.field-0 c.loop-file-test.true c.loop-file.invariant.size is earlier);
   told = search rules;
-  counted = search rules;
-  steady = search rules;
+  answered = c.in_ok-fetch_input.ensures.answered (λ e. cc) ∙ c.loop-file.invariant.answered;
+  steady = λ s. (c.in_ok-fetch_input.ensures.steady (c.loop-file.invariant.steady s)).0;
 }

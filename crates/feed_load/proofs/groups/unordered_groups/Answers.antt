@@ -29,7 +29,7 @@ loop-row-preserved c =
     let id = text_is header fields "location_group_id" _ c.value.result.now c.value.ensures c.column-group_id.ensures in
     let stop = text_is header fields "stop_id" _ c.value-stop.result.now c.value-stop.ensures c.column-stop_id.ensures in
     member_added c.args.stop_ids.now groups ids are_of header c.loop-row.yielded c.in-Some.row c.loop-row.found.items c.loop-row.invariant
-    (subst AreIds (sym are_of) c.requires) c.value.result.now c.value-stop.result.now c.in-Some-index_of.group c.in-Some-index_of-2.place c.index_mut.result.now c.add_member.new.group id stop
+    (subst AreIds (sym are_of) c.requires) c.value.result.now c.value-stop.result.now c.in-Some-index_of.group c.in-Some-index_of-2.index c.index_mut.result.now c.add_member.new.group id stop
     (sym c.index_of.ensures ∙ c.in-Some-index_of.is) (sym c.index_of-in-loop-row.ensures ∙ c.in-Some-index_of-2.is) c.index_mut.ensures.value c.in_ok-add_member.ensures
 
 pub loop-row-preserved-in_default : goal.loop-row-preserved-in_default

@@ -18,7 +18,7 @@ loop-row-preserved c =
     let date = text_is header fields "date" _ c.value.result.now c.value.ensures c.column-date.ensures in
     let fits : SFits w32 c.day-day.result = search rules in
     date_noted (records_in c.args.calendar) c.args.ids.now header c.loop-row.yielded c.in-Some.row c.loop-row.services.items c.loop-row.invariant c.value-id.result.now id c.requires
-    c.in-Some-index_of.place c.value-kind.result.now c.day-day.result c.index_mut.result.now c.add_exception.new.service (sym c.index_of.ensures ∙ c.in-Some-index_of.is) kind
+    c.in-Some-index_of.index c.value-kind.result.now c.day-day.result c.index_mut.result.now c.add_exception.new.service (sym c.index_of.ensures ∙ c.in-Some-index_of.is) kind
     (c.day-day.ensures ∙ ap day date) c.index_mut.ensures.value
     (c.in_ok-add_exception.ensures ∙ ap (λ d. with_exception c.value-kind.result.now d c.index_mut.result.now) (to_z-of_z w32 c.day-day.result fits))
 

@@ -17,7 +17,7 @@ loop-row-preserved c =
     record {
       met = services_noted [] header c.loop-row.yielded c.in-Some.row c.loop-row.met c.note.new.self text c.loop-row.invariant.met c.in_ok-is_repeated.ensures.noted id;
       services = week_noted c.args.ids.now header c.loop-row.yielded c.in-Some.row c.loop-row.services.items c.loop-row.invariant.services text id
-          c.loop-row.met c.loop-row.invariant.met c.requires c.in-Some-index_of.place c.index_mut.result.now c.set_week.new.service (sym c.index_of.ensures ∙ c.in-Some-index_of.is)
+          c.loop-row.met c.loop-row.invariant.met c.requires c.in-Some-index_of.index c.index_mut.result.now c.set_week.new.service (sym c.index_of.ensures ∙ c.in-Some-index_of.is)
           (sym c.in_ok-is_repeated.ensures.repeated ∙ c.if-is_repeated.false) c.index_mut.ensures.value
           (c.set_week.ensures ∙ ap (λ columns. with_week_at columns fields c.index_mut.result.now) c.week_columns-columns.ensures);
     }

@@ -14,9 +14,6 @@ returns c =
     let stop_times = c.args.stop_times.now in
     let frequencies = c.args.frequencies in
     let ids = c.args.ids.now in
-    let found = c.in_ok-found.found.items in
-    let frequent = c.in_ok-frequent.frequent in
-    IfOk-weaker c.whole_trips.result (AllZip IsWhole found) (λ ts. (tables : Tables) → AreTripTables trips stop_times frequencies ids tables → ts ≡ map (trip_of tables) (tables Trips))
-    (λ ts all tables of. trips_are trips stop_times frequencies ids tables of c.requires.ids c.requires.records frequent (c.in_ok-frequent.ensures tables of.frequencies) ts
-    (subst (λ xs. AllZip IsWhole xs ts) c.in_ok-found.ensures all))
+    IfOk-weaker c.whole_trips.result (AllZip IsWhole c.in_ok-found.found.items) (λ ts. (tables : Tables) → AreTripTables trips stop_times frequencies ids tables → ts ≡ map (trip_of tables) (tables Trips))
+    (λ ts all tables of. trips_are trips stop_times frequencies ids tables of c.requires.records c.requires.headways ts (subst (λ xs. AllZip IsWhole xs ts) c.in_ok-found.ensures all))
     c.whole_trips.ensures

@@ -5,8 +5,8 @@ use Rattle.feed_load.specs.LinearTimes.{row_at}
 use Rattle.feed_load.specs.declared.drafts.Draft.{Draft}
 use Rattle.feed_load.proofs.whole_trips.rows_with.Given as goal
 
-abbrev pub invariant-loop-place : goal.invariant-loop-place
-invariant-loop-place l = record {
-  many : length l.rows ≡ l.place;
-  each : (i : ℕ) (row : Row) (draft : Draft) → i < l.place → get_or l.rows i row ≡ row_with (get_or l.drafts i draft) (row_at l.times i);
+abbrev pub invariant-loop-index : goal.invariant-loop-index
+invariant-loop-index l = record {
+  many : length l.rows ≡ l.index;
+  each : (i : ℕ) (row : Row) (draft : Draft) → i < l.index → get_or l.rows i row ≡ row_with (get_or l.drafts i draft) (row_at l.times i);
 }

@@ -9,7 +9,8 @@ pub returns : goal.returns
 returns c = record {
   id = refl;
   service = refl;
-  frequent = refl;
+  frequent = search rules;
+  repeats = refl;
   sorted = c.sort_by_key.new.self.items;
   moved = subst (λ xs. IsPermutation xs c.sort_by_key.new.self.items) c.into_vec-drafts.ensures c.in_ok-sort_by_key.ensures.permutation;
   rising = IsNonDecreasingBy-from_sort_by_key (λ (draft : Draft). draft.sequence) c.sort_by_key.new.self.items c.in_ok-sort_by_key.ensures.sorted (λ a r q k. search rules);

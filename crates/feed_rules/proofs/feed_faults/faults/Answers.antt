@@ -1,4 +1,4 @@
-use Rattle.std.proofs.Common.{◌≡◌, [], List, sym, ◌∙◌}
+use Rattle.std.proofs.Common.{◌≡◌, [], List, refl, sym, ◌∙◌}
 use Rattle.std.proofs.lemmas.Result.{IfOk-weaker}
 use Rattle.flex_model.specs.declared.fault.Fault.{Fault}
 use Rattle.feed_meaning.specs.FeedFaults.{Geo, feed_faults, feed_level_one, feed_level_two}
