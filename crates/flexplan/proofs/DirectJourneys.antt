@@ -43,7 +43,7 @@ one_ride (ride ∷ other ∷ rest) first few is = absurd (omega arith)
 same_triple : (triple : Triple) (ride : Ride) → triple.deadline ≡ Never → triple.arrival ≡ ride.arrives → triple.transfers ≡ 0 → triple.walk ≡ 0 → triple ≡ direct_triple ride
 same_triple triple ride deadline arrival transfers walk = λ i. record { deadline = deadline i; arrival = arrival i; transfers = transfers i; walk = walk i }
 
-all_or_nothing : (asks : Bool) → (if asks then 0 else 0) ≡ 0
+all_or_nothing : (asks : Bool) → ◌≡◌ {A = ℕ} (if asks then 0 else 0) 0
 all_or_nothing true = refl
 all_or_nothing false = refl
 
@@ -86,7 +86,8 @@ module _ (feed : Feed) (times : Times) (days : DayTable) (query : Query) (plain 
       let walks : WalksTo feed times query (ride ∷ []) 0 attains.walked = subst (λ rs. WalksTo feed times query rs (length rs - 1) attains.walked) one attains.walks in
       let on_foot = walks.2 in
       let walked : attains.walked ≡ 0 = on_foot.3 ∙ counted_nothing query on_foot.0 (at_origin walks.0.board on_foot.0 on_foot.1).1 in
-      let walk : triple.walk ≡ 0 = let e = attains.walk in let f = counted_nothing query journey.seconds to.1 in omega arith in (
+      let egress = counted_nothing query journey.seconds to.1 in
+      let walk : triple.walk ≡ 0 = attains.walk ∙ (λ i. walked i + egress i) in (
         ride,
         record {
           permitted = usable.permitted;
@@ -130,5 +131,5 @@ module _ (feed : Feed) (times : Times) (days : DayTable) (query : Query) (plain 
         transfers = refl;
         walked = counted query 0;
         walks = (ride, refl, (0, inl (candidate.origin, refl), omega (arith, ints), refl));
-        walk = let none = counted_nothing query 0 refl in omega arith;
+        walk = let none = counted_nothing query 0 refl in sym (λ i. none i + none i);
       }

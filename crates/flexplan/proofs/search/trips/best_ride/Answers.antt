@@ -13,4 +13,4 @@ loop-trip-preserved c times =
 pub returns : goal.returns
 returns c times =
     all_trips_tried c.args.feed.now times c.args.days.now c.args.query.now c.loop-trip.trip c.loop-trip.best
-    (subst (λ n. n ≤ c.loop-trip.trip) c.len.ensures c.loop-trip-test.false) (c.loop-trip.invariant times)
+    (subst (λ n. n ≤ c.loop-trip.trip) c.len-trip-end.ensures c.loop-trip-test.false) (c.loop-trip.invariant times)
