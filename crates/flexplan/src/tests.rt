@@ -520,6 +520,7 @@ fn a_failing_put_leaves_the_texts_before_it(rt: HostRuntime) -> Result<(), Fail>
 }
 
 // Files for which memory is never enough.
+#[derive(Drop)]
 struct Full;
 
 impl Files for Full {
