@@ -162,35 +162,6 @@ fn a_journey_of_one_ride_is_printed(rt: HostRuntime) -> Result<(), Fail> {
     Ok(())
 }
 
-// The trip runs every ten minutes, first at 08:05:00.
-#[test]
-fn the_start_of_a_repeated_trip_is_printed(rt: HostRuntime) -> Result<(), Fail> {
-    let mut repeats = Listed::new(rt.alloc());
-    repeats.push(Repeat {
-        first: 29_100,
-        end: 30_600,
-        headway: 600,
-    })?;
-    let feed = new_feed(rt.alloc(), new_trip(rt.alloc(), repeats, true)?)?;
-    let times = new_times(rt.alloc());
-    let ride = Ride {
-        start: Some(29_100),
-        departs: 1_749_024_300,
-        arrives: 1_749_025_500,
-        ..RIDE
-    };
-    let answers = new_answers(rt.alloc(), ride, 0)?;
-    let query = new_query(rt.alloc(), "q1", false)?;
-    let mut text = Text::new(rt.alloc());
-    write_answers(&feed, &times, &query, &answers, &mut text)?;
-    assert_eq!(rt;
-        text.as_str(),
-        "query q1 1\njourney never 2025-06-04T08:25:00Z 0\n\
-         ride T 20250604 1 2 M N 2025-06-04T08:05:00Z 2025-06-04T08:25:00Z 29100\n"
-    );
-    Ok(())
-}
-
 #[test]
 fn no_journeys_are_printed_after_what_stands(rt: HostRuntime) -> Result<(), Fail> {
     let trip = new_trip(rt.alloc(), Listed::new(rt.alloc()), false)?;

@@ -75,8 +75,8 @@ const TO_D_WALKING: &str = "M,D,q1,2025-06-04T08:00:00Z,2025-06-03T12:00:00Z,1,6
 fn assert_with(
     rt: &impl Abort,
     alloc: Global,
-    transfers: &[u8],
-    walks: (&str, &[u8]),
+    transfers: &'static [u8],
+    walks: (&'static str, &'static [u8]),
     cases: &[(&str, &[Ride], Result<Triple, JourneyFlaw>)],
 ) -> Result<(), Fail> {
     let rules = ("a/transfers.txt", transfers);
@@ -227,8 +227,8 @@ const BOOKED: (&str, &[u8]) = (
 fn assert_booked(
     rt: &impl Abort,
     alloc: Global,
-    rule: &[u8],
-    dates: &[u8],
+    rule: &'static [u8],
+    dates: &'static [u8],
     cases: &[(&str, &[Ride], Result<Triple, JourneyFlaw>)],
 ) -> Result<(), Fail> {
     let rules = ("a/booking_rules.txt", rule);
