@@ -18,7 +18,7 @@ pub(crate) fn notice_of(feed: &Feed, rule: Option<u32>) -> Notice
     ensures sound { IsSoundNotice feed.now result }
 {
     match rule {
-        Some(r) => feed.rules.as_slice()[r as usize].notice,
+        Some(r) => feed.rules[r as usize].notice,
         None => Notice::RealTime,
     }
 }

@@ -11,10 +11,10 @@ use Rattle.feed_meaning.specs.FeedFaults.{feed_files}
 use Rattle.feed_meaning.specs.Files.{byte_limit}
 use Rattle.feed_meaning.specs.Folder.{Folder}
 use Rattle.feed_meaning.specs.Told.{IsWithin}
-use Rattle.feed_rules.specs.Folders.{place_of}
+use Rattle.feed_rules.specs.Folders.{file_index}
 
 -- the files stand at their places
-pub index-is : (i : ℕ) (d : InputFile) → i < 13 → place_of (get_or feed_files i d) ≡ i
+pub index-is : (i : ℕ) (d : InputFile) → i < 13 → file_index (get_or feed_files i d) ≡ i
 index-is zero d low = refl
 index-is (suc zero) d low = refl
 index-is (suc (suc zero)) d low = refl
@@ -45,7 +45,7 @@ within-few file (Bytes bytes) within = let few = limit-few file in omega (arith,
 
 -- one file more
 pub set-next : (f : Folder) (raws : List RawFile) (i : ℕ) (d : InputFile) (raw : RawFile) → i < 13 → length raws ≡ 13 → raw ≡ f (get_or feed_files i d)
-    → take i raws ≡ map f (take i feed_files) → take (i + 1) (set raws (place_of (get_or feed_files i d)) raw) ≡ map f (take (i + 1) feed_files)
+    → take i raws ≡ map f (take i feed_files) → take (i + 1) (set raws (file_index (get_or feed_files i d)) raw) ≡ map f (take (i + 1) feed_files)
 set-next f raws i d raw low size is earlier =
     let more : i + 1 ≡ suc i = omega arith in
     ap (λ p. take (i + 1) (set raws p raw)) (index-is i d low)

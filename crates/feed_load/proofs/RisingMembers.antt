@@ -15,7 +15,7 @@ use Rattle.flex_model.specs.SoundTimes.{AreIds}
 use Rattle.flex_model.proofs.Found.{AllPairs-first, AllPairs-rest, Contains-first, Contains-rest, first_or_rest, none_contained, only_contained}
 use Rattle.feed_tables.proofs.TableFacts.{position-found}
 use Rattle.feed_meaning.specs.FeedLinks.{Tables}
-use Rattle.feed_meaning.specs.FeedValue.{group_of, is_paired, places_where}
+use Rattle.feed_meaning.specs.FeedValue.{group_of, is_paired, indices_where}
 use Rattle.feed_meaning.specs.Rules.{Values}
 use Rattle.feed_meaning.proofs.Places.{places_are, places_rise}
 use Rattle.feed_load.specs.GroupMembers.{IsRisingGroup, group_by, member_of, unordered_group}
@@ -120,13 +120,13 @@ module _ (tables : Tables) (stop_ids : List (List ℕ)) (are : AreIds stop_ids) 
   count : length stop_ids ≡ length (tables Stops)
   count = ap length (sym ids_are) ∙ length-map (tables Stops) (λ (r : Values). r "stop_id")
 
-  members-are : (r : Values) (g : Group) → IsRisingGroup (unordered_group stop_ids (tables LocationGroupStops) r) g → g.members ≡ places_where (is_paired tables r) (tables Stops)
+  members-are : (r : Values) (g : Group) → IsRisingGroup (unordered_group stop_ids (tables LocationGroupStops) r) g → g.members ≡ indices_where (is_paired tables r) (tables Stops)
   members-are r g o =
       let pairs = tables LocationGroupStops in
       let stops = tables Stops in
       let test = is_paired tables r in
       let dummy : Values = λ name. [] in
-      rising_lists g.members (places_where test stops) o.rise (places_rise test stops)
+      rising_lists g.members (indices_where test stops) o.rise (places_rise test stops)
       (λ k c.
       let m = members_paired stop_ids are (r "location_group_id") pairs k ((o.same k).0 c) in
       let low : k < length stops = omega (arith, m.0, count) in

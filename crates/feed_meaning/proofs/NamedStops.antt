@@ -13,7 +13,7 @@ use Rattle.flex_model.specs.Place.{HasBoards}
 use Rattle.feed_meaning.specs.FeedFaults.{Feature}
 use Rattle.feed_meaning.specs.FeedLinks.{Tables, is_in, is_station}
 use Rattle.feed_meaning.specs.FeedRules.{is_boarding}
-use Rattle.feed_meaning.specs.FeedValue.{boards_at, index_in, place_of, stop_of}
+use Rattle.feed_meaning.specs.FeedValue.{boards_at, index_in, first_index, stop_of}
 use Rattle.feed_meaning.specs.Rules.{Values}
 use Rattle.feed_meaning.proofs.KeptFeeds.{KeepsFeedRules}
 use Rattle.feed_meaning.proofs.NamedLists.{ids-differ}
@@ -81,7 +81,7 @@ module _ (tables : Tables) (features : List Feature) (kept : KeepsFeedRules tabl
       let k = index_in tables Stops "stop_id" text in
       let low = index_low tables Stops "stop_id" text here in
       let found = place_passes (λ s. bytes_eq text (s "stop_id") && is_boarding s) stops h in
-      let m = place_of (λ s. bytes_eq text (s "stop_id") && is_boarding s) stops in
+      let m = first_index (λ s. bytes_eq text (s "stop_id") && is_boarding s) stops in
       let parts = and_parts (bytes_eq text (get_or stops m d "stop_id")) (is_boarding (get_or stops m d)) (found.1 d) in
       let same : k ≡ m = same-place k m d low found.0 (sym (text_at_index tables Stops "stop_id" text d here) ∙ (bytes_eq-Decides text (get_or stops m d "stop_id")).0 parts.0) in
       boards_there k d low (ap (λ n. is_boarding (get_or stops n d)) same ∙ parts.1)

@@ -9,7 +9,7 @@ use Rattle.std.proofs.lemmas.List.FromFn.{get_or-enumerate_from, length-enumerat
 use Rattle.std.proofs.lemmas.List.Kept.{AllPairs-filter}
 use Rattle.std.proofs.lemmas.List.Sums.{passes_at_first}
 use Rattle.flex_model.proofs.Found.{Contains-first, Contains-rest, first_or_rest, none_contained}
-use Rattle.feed_meaning.specs.FeedValue.{place_of, places_where}
+use Rattle.feed_meaning.specs.FeedValue.{first_index, indices_where}
 
 -- what holds of each two images holds of the two items
 pub AllPairs-map : {X Y : Type 0} (R : Y → Y → Type 0) (f : X → Y) (xs : List X) → AllPairs (λ a b. R (f a) (f b)) xs → AllPairs R (map f xs)
@@ -31,12 +31,12 @@ numbers-rise n xs i j d lt low =
     let right = ap (λ p. p.0) at_j in
     omega (arith, left, right)
 
-pub places_rise : {X : Type 0} (test : X → Bool) (xs : List X) → AllPairs (λ a b. a < b) (places_where test xs)
+pub places_rise : {X : Type 0} (test : X → Bool) (xs : List X) → AllPairs (λ a b. a < b) (indices_where test xs)
 places_rise test xs =
     AllPairs-map (λ a b. a < b) (λ p. p.0) (filter (λ p. test p.1) (enumerate_from 0 xs))
     (AllPairs-filter (λ p q. p.0 < q.0) (λ p. test p.1) (enumerate_from 0 xs) (numbers-rise 0 xs))
 
-pub places_low : {X : Type 0} (test : X → Bool) (xs : List X) → All (λ k. k < length xs) (places_where test xs)
+pub places_low : {X : Type 0} (test : X → Bool) (xs : List X) → All (λ k. k < length xs) (indices_where test xs)
 places_low test xs =
     All-map (λ k. k < length xs) (λ p. p.0) (filter (λ p. test p.1) (enumerate_from 0 xs))
     (All-filter (λ p. test p.1) (λ p. p.0 < length xs) (enumerate_from 0 xs)
@@ -84,10 +84,10 @@ contains-from test n (suc k) (x ∷ xs) p =
     by true c = Contains-rest n (n + suc k) (places-from test (n + 1) xs) c
 
 -- the places that pass are those of the items that do
-pub places_are : {X : Type 0} (test : X → Bool) (xs : List X) (k : ℕ) → Contains (places_where test xs) k ↔ ((x : X) × (slice_get xs k ≡ Some x) × (test x ≡ true))
+pub places_are : {X : Type 0} (test : X → Bool) (xs : List X) (k : ℕ) → Contains (indices_where test xs) k ↔ ((x : X) × (slice_get xs k ≡ Some x) × (test x ≡ true))
 places_are test xs k = (
   λ c. let r = passes-from test 0 k xs c in let e : r.0 ≡ k = let e' = r.1 in omega (arith, e') in subst (Passes test xs) e r.2,
-  λ p. let same : 0 + k ≡ k = omega arith in subst (Contains (places_where test xs)) same (contains-from test 0 k xs p),
+  λ p. let same : 0 + k ≡ k = omega arith in subst (Contains (indices_where test xs)) same (contains-from test 0 k xs p),
 )
 
 -- ---- the first place
@@ -102,8 +102,8 @@ first_is_low test (x ∷ xs) e = by (λ h. first_is_low test xs h) (test x) e
     by rest false h = let low = rest h in omega (arith, low)
 
 -- where some item passes, the place of the first one holds an item that does
-pub place_passes : {X : Type 0} (test : X → Bool) (xs : List X) → list_any test xs ≡ true → (place_of test xs < length xs) × ((d : X) → test (get_or xs (place_of test xs) d) ≡ true)
+pub place_passes : {X : Type 0} (test : X → Bool) (xs : List X) → list_any test xs ≡ true → (first_index test xs < length xs) × ((d : X) → test (get_or xs (first_index test xs) d) ≡ true)
 place_passes test xs e =
     let low = first_is_low test xs e in
-    let at : place_of test xs ≡ position_or_len test xs = ap (λ b. unwrap_or (cond b (Some (position_or_len test xs)) None) 0) (lt-ltb (position_or_len test xs) (length xs) low) in
+    let at : first_index test xs ≡ position_or_len test xs = ap (λ b. unwrap_or (cond b (Some (position_or_len test xs)) None) 0) (lt-ltb (position_or_len test xs) (length xs) low) in
     (omega (arith, low, at), λ d. ap (λ k. test (get_or xs k d)) at ∙ passes_at_first test xs d low)

@@ -20,7 +20,7 @@ use Rattle.flex_model.specs.SoundFeed.{IsSoundFeed}
 use Rattle.flex_model.specs.SoundTimes.{IsInRange}
 use Rattle.flex_model.specs.Times.{IsSpanBefore}
 use Rattle.std.proofs.lemmas.List.{get_or-map, length-map}
-use Rattle.feed_meaning.specs.FeedValue.{place_of}
+use Rattle.feed_meaning.specs.FeedValue.{first_index}
 use Rattle.feed_meaning.specs.QueryFaults.{is_point}
 use Rattle.feed_meaning.specs.TimesFaults.{is_boarding_stop, is_stop}
 use Rattle.feed_meaning.specs.TimesValue.{place_named, span_before}
@@ -135,11 +135,11 @@ spans_in_order x y differ = by (place_cmp x.from y.from) (place_cmp x.to y.to) r
 -- ---- named places
 
 -- the item at the place of a text has that text
-pub text_there : {X : Type 0} (of : X → List ℕ) (xs : List X) (text : List ℕ) (d : X) → list_any (λ x. bytes_eq text (of x)) xs ≡ true → text ≡ of (get_or xs (place_of (λ x. bytes_eq text (of x)) xs) d)
-text_there of xs text d here = (bytes_eq-Decides text (of (get_or xs (place_of (λ x. bytes_eq text (of x)) xs) d))).0 ((place_passes (λ x. bytes_eq text (of x)) xs here).1 d)
+pub text_there : {X : Type 0} (of : X → List ℕ) (xs : List X) (text : List ℕ) (d : X) → list_any (λ x. bytes_eq text (of x)) xs ≡ true → text ≡ of (get_or xs (first_index (λ x. bytes_eq text (of x)) xs) d)
+text_there of xs text d here = (bytes_eq-Decides text (of (get_or xs (first_index (λ x. bytes_eq text (of x)) xs) d))).0 ((place_passes (λ x. bytes_eq text (of x)) xs here).1 d)
 
 same-there : {X : Type 0} (of : X → List ℕ) (xs : List X) (a b : List ℕ) (d : X) → list_any (λ x. bytes_eq a (of x)) xs ≡ true → list_any (λ x. bytes_eq b (of x)) xs ≡ true
-    → place_of (λ x. bytes_eq a (of x)) xs ≡ place_of (λ x. bytes_eq b (of x)) xs → a ≡ b
+    → first_index (λ x. bytes_eq a (of x)) xs ≡ first_index (λ x. bytes_eq b (of x)) xs → a ≡ b
 same-there of xs a b d in_a in_b e = text_there of xs a d in_a ∙ ap (λ k. of (get_or xs k d)) e ∙ sym (text_there of xs b d in_b)
 
 no_stop : Stop
@@ -163,10 +163,10 @@ module _ (feed : Feed) (times : Times) where
   IsKnownPlace text = (is_stop feed text || is_point times text) ≡ true
 
   abbrev stop_at : List ℕ → ℕ
-  stop_at text = place_of (λ stop. bytes_eq text stop.id) feed.stops
+  stop_at text = first_index (λ stop. bytes_eq text stop.id) feed.stops
 
   abbrev point_at : List ℕ → ℕ
-  point_at text = place_of (λ point. bytes_eq text point.id) times.points
+  point_at text = first_index (λ point. bytes_eq text point.id) times.points
 
   pub place_in_range : (text : List ℕ) → IsKnownPlace text → IsInRange feed times (place_named feed times.points text)
   place_in_range text known = by (is_stop feed text) refl known
@@ -203,11 +203,11 @@ module _ (feed : Feed) (sound : IsSoundFeed feed) where
           (get_or-map (λ stop. stop.id) feed.stops i d [] (omega (arith, lt, low)) ∙ e ∙ sym (get_or-map (λ stop. stop.id) feed.stops j d [] low))
 
   -- the stop with a text that some stop where one can board has
-  pub boarding_stop : (text : List ℕ) → is_boarding_stop feed text ≡ true → (is_stop feed text ≡ true) × HasBoards feed (place_of (λ stop. bytes_eq text stop.id) feed.stops)
+  pub boarding_stop : (text : List ℕ) → is_boarding_stop feed text ≡ true → (is_stop feed text ≡ true) × HasBoards feed (first_index (λ stop. bytes_eq text stop.id) feed.stops)
   boarding_stop text h =
       let here = any_weaker (λ stop. bytes_eq text stop.id && stop.boards) (λ stop. bytes_eq text stop.id) feed.stops (λ stop e. (and_parts (bytes_eq text stop.id) stop.boards e).0) h in
-      let k = place_of (λ stop. bytes_eq text stop.id) feed.stops in
-      let m = place_of (λ stop. bytes_eq text stop.id && stop.boards) feed.stops in
+      let k = first_index (λ stop. bytes_eq text stop.id) feed.stops in
+      let m = first_index (λ stop. bytes_eq text stop.id && stop.boards) feed.stops in
       let low = (place_passes (λ stop. bytes_eq text stop.id) feed.stops here).0 in
       let found = place_passes (λ stop. bytes_eq text stop.id && stop.boards) feed.stops h in
       let parts = and_parts (bytes_eq text (get_or feed.stops m no_stop).id) (get_or feed.stops m no_stop).boards (found.1 no_stop) in

@@ -16,7 +16,7 @@ use Rattle.flex_model.specs.declared.place.Ring.{Ring}
 use Rattle.flex_model.specs.SoundFeed.{IsSoundPolygon}
 use Rattle.flex_model.specs.SoundTimes.{AreIds, IsOnGlobe}
 use Rattle.feed_meaning.specs.FeedFaults.{Feature, Zones}
-use Rattle.feed_meaning.specs.Locations.{Check, Json, Scan, at_rows, check, check_member, checks, corners, depth_fault, feature_checks, feature_nodes, feature_of, geometry_checks, is_filled_list, latitude, longitude, member, one_fault, polygon_checks, polygon_of, polygons, position_of, repeated, row_at, scanned, syntax_fault, walked, without_mark, zones_of, zones_of_scan}
+use Rattle.feed_meaning.specs.Locations.{Check, Json, Scan, at_rows, check, check_member, checks, corners, depth_fault, feature_checks, feature_nodes, feature_of, geometry_checks, is_filled_array, latitude, longitude, member, one_fault, polygon_checks, polygon_of, polygons, position_of, repeated, row_at, scanned, syntax_fault, walked, without_mark, zones_of, zones_of_scan}
 use Rattle.feed_meaning.specs.Soundness.{WalkedFeaturesAreSound}
 use Rattle.feed_meaning.specs.Tables.{with_earlier_from}
 use Rattle.feed_meaning.proofs.FieldBounds.{is_on_globe}
@@ -65,9 +65,9 @@ rings-there f (x ∷ items) some e = cc
 
 polygon-sound : (json : Json) (p : ℕ) → HaveNone (polygon_checks json p) → IsSoundPolygon (polygon_of json p)
 polygon-sound json p none =
-    let filled = holds (is_filled_list json p) (json.place p) GeoShape (first-passes (check (is_filled_list json p) (json.place p) GeoShape) _ none).0 in
+    let filled = holds (is_filled_array json p) (json.place p) GeoShape (first-passes (check (is_filled_array json p) (json.place p) GeoShape) _ none).0 in
     record {
-      exterior = rings-there (λ ring. record { corners = corners json ring }) (json.items p) (and_parts (json.is_list p) (nat_lt 0 (length (json.items p))) filled).1;
+      exterior = rings-there (λ ring. record { corners = corners json ring }) (json.items p) (and_parts (json.is_array p) (nat_lt 0 (length (json.items p))) filled).1;
       on_globe = All-map (λ (ring : Ring). All IsOnGlobe ring.corners) (λ ring. record { corners = corners json ring }) (json.items p)
           (λ i d low. All-map IsOnGlobe (position_of json) (json.items (get_or (json.items p) i d)) (λ j e h. position-sound json (get_or (json.items (get_or (json.items p) i d)) j e)));
     }

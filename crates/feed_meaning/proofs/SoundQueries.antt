@@ -18,7 +18,7 @@ use Rattle.field_text.specs.Grammars.{count, is_civil, is_shaped, moment, number
 use Rattle.field_text.proofs.DateLemmas.{civil_bounds, civil_from_test}
 use Rattle.field_text.proofs.OnLiterals.{field_text_on_literals}
 use Rattle.feed_meaning.specs.FeedRules.{is_positive_count}
-use Rattle.feed_meaning.specs.FeedValue.{place_of}
+use Rattle.feed_meaning.specs.FeedValue.{first_index}
 use Rattle.feed_meaning.specs.QueryFaults.{is_point, place_rule, queries_schema, query_contents, query_rules}
 use Rattle.feed_meaning.specs.Rules.{Values, is_empty, is_no, rule, stand}
 use Rattle.feed_meaning.specs.Soundness.{AcceptedQueriesAreSound}
@@ -100,7 +100,7 @@ module _ (feed : Feed) (times : Times) (sound : IsSoundFeed feed) where
       by (is_stop feed text) refl here boards
     where
       by : (b : Bool) → is_stop feed text ≡ b → (b || is_point times text) ≡ true → (b && not (is_boarding_stop feed text)) ≡ false
-          → IsQueryPlace feed times (if b then place.Stop (place_of (λ stop. bytes_eq text stop.id) feed.stops) else place.Point (place_of (λ point. bytes_eq text point.id) times.points))
+          → IsQueryPlace feed times (if b then place.Stop (first_index (λ stop. bytes_eq text stop.id) feed.stops) else place.Point (first_index (λ point. bytes_eq text point.id) times.points))
       by true is here boards = (boarding_stop feed sound text (not-false (is_boarding_stop feed text) boards)).1
       by false is here boards = (place_passes (λ point. bytes_eq text point.id) times.points here).0
 

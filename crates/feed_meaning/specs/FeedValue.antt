@@ -40,9 +40,9 @@ use Rattle.feed_meaning.specs.Rules.{Values, is_empty, is_text}
 use Rattle.feed_meaning.specs.Tables.{with_earlier}
 use Prim.Native.String.{String}
 
--- the places of the items that pass, rising
-abbrev pub places_where : {X : Type 0} → (X → Bool) → List X → List ℕ
-places_where test items = map (λ p. p.0) (filter (λ p. test p.1) (enumerate_from 0 items))
+-- the indexes of the items that pass, rising
+abbrev pub indices_where : {X : Type 0} → (X → Bool) → List X → List ℕ
+indices_where test items = map (λ p. p.0) (filter (λ p. test p.1) (enumerate_from 0 items))
 
 -- the items in rising order: the k-th are those that k others come before
 abbrev pub rising : {X : Type 0} → (X → X → Bool) → List X → List X
@@ -55,13 +55,13 @@ abbrev pub first_appearances : List (List ℕ) → List (List ℕ)
 first_appearances texts =
     map (λ p. p.1) (filter (λ p. not (list_any (bytes_eq p.1) p.0)) (with_earlier texts))
 
--- the place of the first item that passes
-abbrev pub place_of : {X : Type 0} → (X → Bool) → List X → ℕ
-place_of test items = unwrap_or (position test items) 0
+-- the index of the first item that passes
+abbrev pub first_index : {X : Type 0} → (X → Bool) → List X → ℕ
+first_index test items = unwrap_or (position test items) 0
 
--- the place of the record that has this text in the column
+-- the index of the record that has this text in the column
 abbrev pub index_in : Tables → InputFile → String → List ℕ → ℕ
-index_in tables file column text = place_of (λ s. bytes_eq text (s column)) (tables file)
+index_in tables file column text = first_index (λ s. bytes_eq text (s column)) (tables file)
 
 -- the same, where a text is given
 abbrev pub index_if_given : (List ℕ → ℕ) → List ℕ → Option ℕ
@@ -86,7 +86,7 @@ abbrev pub zone_of : List Stop → Feature → Zone
 zone_of stops feature = record {
   id = feature.id;
   polygons = feature.polygons;
-  stops = places_where (λ stop. stop.boards && is_in_zone feature.polygons stop.at) stops;
+  stops = indices_where (λ stop. stop.boards && is_in_zone feature.polygons stop.at) stops;
 }
 
 -- the group and the stop are paired
@@ -100,7 +100,7 @@ is_paired tables group stop =
 abbrev pub group_of : Tables → Values → Group
 group_of tables r = record {
   id = r "location_group_id";
-  members = places_where (is_paired tables r) (tables Stops);
+  members = indices_where (is_paired tables r) (tables Stops);
 }
 
 abbrev pub service_ids : Tables → List (List ℕ)
@@ -139,7 +139,7 @@ service_of tables id =
     }
 
 abbrev pub service_index : Tables → List ℕ → ℕ
-service_index tables id = place_of (bytes_eq id) (service_ids tables)
+service_index tables id = first_index (bytes_eq id) (service_ids tables)
 
 abbrev pub start : Values → Prior
 start r = record {

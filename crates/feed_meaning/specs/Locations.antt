@@ -21,7 +21,7 @@ pub record Json : Type 0 where
   pub root : ℕ
   pub place : ℕ → ℕ
   pub is_object : ℕ → Bool
-  pub is_list : ℕ → Bool
+  pub is_array : ℕ → Bool
   pub is_word : ℕ → Bool
   pub is_number : ℕ → Bool
   pub member : ℕ → List ℕ → Option ℕ
@@ -55,8 +55,8 @@ is_word json word node = json.is_word node && bytes_eq (json.text node) (codes w
 abbrev pub member : Json → ℕ → String → ℕ
 member json node name = unwrap_or (json.member node (codes name)) node
 
-abbrev pub is_filled_list : Json → ℕ → Bool
-is_filled_list json node = json.is_list node && nat_lt 0 (length (json.items node))
+abbrev pub is_filled_array : Json → ℕ → Bool
+is_filled_array json node = json.is_array node && nat_lt 0 (length (json.items node))
 
 -- the first two items of a position
 abbrev pub longitude : Json → ℕ → ℕ
@@ -71,7 +71,7 @@ is_degree json greatest node = not (is_none (degree greatest (json.digits node))
 abbrev pub position_checks : Json → ℕ → List Check
 position_checks json p =
     check
-    (json.is_list p && nat_le 2 (length (json.items p)) && json.is_number (longitude json p)
+    (json.is_array p && nat_le 2 (length (json.items p)) && json.is_number (longitude json p)
     && json.is_number (latitude json p))
     (json.place p) GeoShape
     ∷ check (is_degree json 180 (longitude json p)) (json.place (longitude json p)) BadCoordinate
@@ -97,7 +97,7 @@ closes (first ∷ others) = is_same_position first (get_or (first ∷ others) (l
 
 abbrev pub ring_checks : Json → ℕ → List Check
 ring_checks json ring =
-    check (json.is_list ring) (json.place ring) GeoShape
+    check (json.is_array ring) (json.place ring) GeoShape
     ∷ flat_map (position_checks json) (json.items ring)
     ++ check (nat_le 4 (length (json.items ring))) (json.place ring) RingShort
     ∷ check (closes (corners json ring)) (json.place ring) RingOpen
@@ -105,7 +105,7 @@ ring_checks json ring =
 
 abbrev pub polygon_checks : Json → ℕ → List Check
 polygon_checks json polygon =
-    check (is_filled_list json polygon) (json.place polygon) GeoShape
+    check (is_filled_array json polygon) (json.place polygon) GeoShape
     ∷ flat_map (ring_checks json) (json.items polygon)
 
 -- the polygons of a geometry, by its type
@@ -118,8 +118,8 @@ polygons json geometry =
 abbrev pub geometry_checks : Json → ℕ → List Check
 geometry_checks json g =
     check_member json g "type" (λ v. is_word json "Polygon" v || is_word json "MultiPolygon" v)
-    ∷ check_member json g "coordinates" json.is_list
-    ∷ check (is_filled_list json (member json g "coordinates"))
+    ∷ check_member json g "coordinates" json.is_array
+    ∷ check (is_filled_array json (member json g "coordinates"))
     (json.place (member json g "coordinates")) GeoShape
     ∷ flat_map (polygon_checks json) (polygons json g)
 
@@ -139,12 +139,12 @@ abbrev pub checks : Json → List Check
 checks json =
     check (json.is_object json.root) (json.place json.root) GeoShape
     ∷ check_member json json.root "type" (is_word json "FeatureCollection")
-    ∷ check_member json json.root "features" json.is_list
+    ∷ check_member json json.root "features" json.is_array
     ∷ flat_map (feature_checks json) (feature_nodes json)
 
--- the row of a place: 1 and the line feeds before it
+-- the row of an offset: 1 and the line feeds before it
 abbrev pub row_at : List ℕ → ℕ → ℕ
-row_at text place = 1 + count_by (nat_eq 10) (take place text)
+row_at text offset = 1 + count_by (nat_eq 10) (take offset text)
 
 abbrev pub polygon_of : Json → ℕ → Polygon
 polygon_of json polygon = record {

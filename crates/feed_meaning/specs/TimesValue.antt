@@ -14,7 +14,7 @@ use Rattle.flex_model.specs.declared.query.Query.{Query}
 use Rattle.flex_model.specs.declared.times.Span.{Span}
 use Rattle.flex_model.specs.declared.times.Times.{Times}
 use Rattle.flex_model.specs.Times.{span_cmp}
-use Rattle.feed_meaning.specs.FeedValue.{coordinate, place_of, rising}
+use Rattle.feed_meaning.specs.FeedValue.{coordinate, first_index, rising}
 use Rattle.feed_meaning.specs.Folder.{Folder, bytes_of, entries}
 use Rattle.field_text.specs.Grammars.{moment, number}
 use Rattle.feed_meaning.specs.Rules.{Values, is_text}
@@ -30,8 +30,8 @@ point_of r = record {
 -- the stop or the point with this id
 abbrev pub place_named : Feed → List Point → List ℕ → Place
 place_named feed points text =
-    if is_stop feed text then place.Stop (place_of (λ stop. bytes_eq text stop.id) feed.stops)
-    else place.Point (place_of (λ point. bytes_eq text point.id) points)
+    if is_stop feed text then place.Stop (first_index (λ stop. bytes_eq text stop.id) feed.stops)
+    else place.Point (first_index (λ point. bytes_eq text point.id) points)
 
 abbrev pub span_of : Feed → List Point → Values → Span
 span_of feed points r = record {

@@ -5,7 +5,7 @@ ghost use Rattle.std.specs.List.{list_all};
 ghost use Rattle.std.specs.Option.{option_to_list};
 ghost use Rattle.feed_tables.specs.Records.{header_of};
 ghost use Rattle.feed_tables.specs.Refusals.{is_given};
-ghost use Rattle.feed_meaning.specs.Rules as Words;
+ghost use Rattle.feed_meaning.specs.Rules;
 ghost use Rattle.feed_meaning.specs.Tables as Lists;
 ghost use Rattle.feed_meaning.specs.Tables.{Schema, faults_at, missing_columns, missing_faults};
 
@@ -15,7 +15,7 @@ use flex_model::{Fault, FaultCode, InputFile, Listed, NoMemory};
 
 /// A rule at a record: its fault, where it is broken.
 pub fn rule(code: FaultCode, is_broken: bool) -> Option<FaultCode>
-    ensures { result ≡ Words.rule code is_broken }
+    ensures { result ≡ Rules.rule code is_broken }
 {
     if is_broken { Some(code) } else { None }
 }

@@ -2,7 +2,7 @@
 
 ghost use Rattle.std.specs.Prelude.{◌≡◌, ◌≢◌, ◌≤◌, ◌++◌, Err, IfOk, IfSome, IsErrOf};
 ghost use Rattle.flex_io.specs.Outside.{HasFailed, HasFileWithin};
-ghost use Rattle.feed_meaning.specs.Files as Files;
+ghost use Rattle.feed_meaning.specs.Files as FileLimits;
 ghost use Rattle.feed_meaning.specs.Told.{IsWithin, path_in, told_file, told_folder};
 
 use crate::files::{byte_limit, file_name};
@@ -69,7 +69,7 @@ pub fn fetch_input<F: Files>(
     // Where files are told, the file is the told one. It has no more bytes than its limit.
     ensures fetched { IfSome (F.told files.old) (λ told.
         IfOk result (λ raw. raw ≡ told_folder told folder.now file)) }
-    ensures within { IfOk result (IsWithin (Files.byte_limit file)) }
+    ensures within { IfOk result (IsWithin (FileLimits.byte_limit file)) }
 
     ensures told { F.told files.new ≡ F.told files.old }
     ensures counted { F.faults files.old ≤ F.faults files.new }

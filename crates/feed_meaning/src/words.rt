@@ -3,12 +3,12 @@
 ghost use Rattle.std.specs.Prelude.{◌≡◌, ◌&&◌, is_none};
 ghost use Rattle.std.specs.Str.{bytes_eq};
 ghost use Rattle.feed_meaning.specs.FeedRules;
-ghost use Rattle.feed_meaning.specs.Rules as Words;
+ghost use Rattle.feed_meaning.specs.Rules;
 ghost use Rattle.feed_tables.specs.Refusals;
 
 /// Whether a text is empty.
 pub fn is_empty(text: &str) -> bool
-    ensures { result ≡ Words.is_empty text.now }
+    ensures { result ≡ Rules.is_empty text.now }
 {
     text.is_empty()
 }
@@ -36,7 +36,7 @@ pub fn is_bad<T: Copy>(text: &str, value: Option<T>) -> bool
 
 /// Whether both are there, and the first is greater.
 pub fn is_later(a: Option<u32>, b: Option<u32>) -> bool
-    ensures { result ≡ Words.stand FeedRules.is_later a b }
+    ensures { result ≡ Rules.stand FeedRules.is_later a b }
 {
     match (a, b) {
         (Some(a), Some(b)) => b < a,

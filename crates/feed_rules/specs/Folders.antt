@@ -38,22 +38,22 @@ folder_of raws Transfers = get_or raws 11 Absent
 folder_of raws Frequencies = get_or raws 12 Absent
 folder_of raws file = Absent
 
--- the place of a file among those of the feed
-abbrev pub place_of : InputFile → ℕ
-place_of Agency = 0
-place_of Stops = 1
-place_of Routes = 2
-place_of Trips = 3
-place_of StopTimes = 4
-place_of Calendar = 5
-place_of CalendarDates = 6
-place_of Locations = 7
-place_of LocationGroups = 8
-place_of LocationGroupStops = 9
-place_of BookingRules = 10
-place_of Transfers = 11
-place_of Frequencies = 12
-place_of file = 13
+-- the index of a file among those of the feed
+abbrev pub file_index : InputFile → ℕ
+file_index Agency = 0
+file_index Stops = 1
+file_index Routes = 2
+file_index Trips = 3
+file_index StopTimes = 4
+file_index Calendar = 5
+file_index CalendarDates = 6
+file_index Locations = 7
+file_index LocationGroups = 8
+file_index LocationGroupStops = 9
+file_index BookingRules = 10
+file_index Transfers = 11
+file_index Frequencies = 12
+file_index file = 13
 
 -- what each table of the feed was found to be; other files are no tables
 abbrev pub found_of : RawFeed → InputFile → Found

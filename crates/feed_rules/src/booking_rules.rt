@@ -19,7 +19,7 @@ use flex_model::limits::{GREATEST_NOTICE_DAYS, GREATEST_NOTICE_MINUTES};
 use flex_model::{Fault, FaultCode, InputFile, Listed, NoMemory};
 use std::alloc::Global;
 
-/// The places of the columns of booking_rules.txt, where it has them.
+/// The indexes of the columns of booking_rules.txt, where it has them.
 #[derive(Clone, Copy)]
 pub(crate) struct BookingColumns {
     pub(crate) booking_rule_id: Option<u32>,
@@ -54,7 +54,7 @@ pub(crate) struct BookingRule<'a> {
     pub(crate) service: &'a str,
 }
 
-/// The places of the columns of a table.
+/// The indexes of the columns of a table.
 pub(crate) fn booking_columns(table: &Table) -> BookingColumns
     ensures { AreBookingColumns (header_of table.now) result }
 {

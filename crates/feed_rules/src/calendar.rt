@@ -14,7 +14,7 @@ use feed_tables::{RowView, Table};
 use flex_model::{Fault, FaultCode, InputFile, Listed, NoMemory};
 use std::alloc::Global;
 
-/// The places of the columns of calendar.txt, where it has them.
+/// The indexes of the columns of calendar.txt, where it has them.
 #[derive(Clone, Copy)]
 pub(crate) struct WeekColumns {
     pub(crate) service_id: Option<u32>,
@@ -44,7 +44,7 @@ pub(crate) struct ServiceWeek<'a> {
     pub(crate) end: Option<i32>,
 }
 
-// The places of the columns of a table.
+// The indexes of the columns of a table.
 fn week_columns(table: &Table) -> WeekColumns
     ensures { AreWeekColumns (header_of table.now) result }
 {

@@ -7,7 +7,7 @@ ghost use Rattle.flex_model.specs.declared.fault.InputFile.TheVariants as InputF
 ghost use Rattle.flex_model.specs.declared.fault.RawFile.TheVariants as Raw;
 ghost use Rattle.feed_meaning.specs.Folder.{Folder};
 ghost use Rattle.feed_meaning.specs.Told.{IsWithin};
-ghost use Rattle.feed_rules.specs.Folders.{ReadsFolder, absent_files, folder_of, found_of, found_zones, is_feed_table, place_of, table_in, table_of};
+ghost use Rattle.feed_rules.specs.Folders.{ReadsFolder, absent_files, folder_of, found_of, found_zones, is_feed_table, file_index, table_in, table_of};
 ghost use Rattle.feed_rules.specs.Zones.{AreZonesOf, zones_in};
 
 use crate::found::{Found, read_file};
@@ -76,9 +76,9 @@ impl FeedBytes {
 
     /// Sets one of the files of the feed. It has fewer than 2^32 bytes.
     pub fn set(&mut self, file: InputFile, raw: RawFile)
-        requires feed_file { place_of file < 13 }
+        requires feed_file { file_index file < 13 }
         requires within { IsWithin 4294967295 raw }
-        ensures { self.new ≡ set self.old (place_of file) raw }
+        ensures { self.new ≡ set self.old (file_index file) raw }
     {
         match file {
             InputFile::Agency => self.agency = raw,

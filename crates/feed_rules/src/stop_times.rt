@@ -20,7 +20,7 @@ use flex_model::{Fault, FaultCode, InputFile, Listed, NoMemory};
 use indexmap::IndexSet;
 use std::alloc::Global;
 
-/// The places of the columns of stop_times.txt, where it has them.
+/// The indexes of the columns of stop_times.txt, where it has them.
 #[derive(Clone, Copy)]
 pub(crate) struct StopTimeColumns {
     pub(crate) trip_id: Option<u32>,
@@ -63,7 +63,7 @@ pub(crate) struct StopTime<'a> {
     pub(crate) drop_off_rule: &'a str,
 }
 
-/// The places of the columns of a table.
+/// The indexes of the columns of a table.
 pub(crate) fn stop_time_columns(table: &Table) -> StopTimeColumns
     ensures { AreColumns (header_of table.now) result }
 {

@@ -20,7 +20,7 @@ use flex_model::{Fault, FaultCode, InputFile, Listed, NoMemory};
 use indexmap::IndexSet;
 use std::alloc::Global;
 
-/// The places of the columns of transfers.txt, where it has them.
+/// The indexes of the columns of transfers.txt, where it has them.
 #[derive(Clone, Copy)]
 pub(crate) struct TransferColumns {
     pub(crate) from_stop_id: Option<u32>,
@@ -48,7 +48,7 @@ pub(crate) struct Transfer<'a> {
     pub(crate) to_trip: &'a str,
 }
 
-/// The places of the columns of a table.
+/// The indexes of the columns of a table.
 pub(crate) fn transfer_columns(table: &Table) -> TransferColumns
     ensures { AreTransferColumns (header_of table.now) result }
 {

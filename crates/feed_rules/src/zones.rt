@@ -33,13 +33,13 @@ fn without_mark(bytes: &[u8]) -> &[u8]
     }
 }
 
-// The row of a place: 1 and the line feeds before it.
-fn row_at(text: &[u8], place: usize) -> u64
-    requires { place ≤ length text.now }
-    ensures { result ≡ Locations.row_at text.now place }
+// The row of an offset: 1 and the line feeds before it.
+fn row_at(text: &[u8], offset: usize) -> u64
+    requires { offset ≤ length text.now }
+    ensures { result ≡ Locations.row_at text.now offset }
 {
     let mut row = 1;
-    for byte in &text[..place] {
+    for byte in &text[..offset] {
         if *byte == b'\n' {
             row += 1;
         }

@@ -10,6 +10,7 @@ ghost use Rattle.field_text.specs.Grammars.{number, scaled, signed, some_if, uns
 
 use crate::digits::{digits_within, is_digits, number_after, with_zeros};
 use crate::numeral::{Numeral, numeral_of};
+use flex_model::limits::MOST_DEGREE_BYTES;
 
 /// A text that is no degree, or one whose size is past the greatest.
 #[derive(Clone, Copy, Debug, PartialEq, Eq)]
@@ -119,7 +120,7 @@ fn degree_of(text: &[u8], greatest: u64) -> Option<i64>
     requires { greatest < 2 ^ 63 }
     ensures { result ≡ degree_within (pos greatest) text.now }
 {
-    if text.len() > 64 {
+    if text.len() > MOST_DEGREE_BYTES {
         return None;
     }
     degree_of_numeral(&numeral_of(text), greatest)

@@ -12,6 +12,7 @@ use crate::ascii::ascii_text;
 use crate::calendar::{civil_parts, four_digits, two_digits};
 use crate::date::day_of_parts;
 use crate::digits::number_after;
+use flex_model::limits::{FIRST_YEAR, LAST_YEAR};
 use flex_model::{Moment, NoMemory, Text};
 
 /// A text that is no moment of the years 1980 to 2209.
@@ -66,7 +67,13 @@ fn moment_of(text: &[u8]) -> Option<Moment>
     if !is_shaped(b"0000-00-00T00:00:00Z", text) {
         return None;
     }
-    let day = day_of_parts(1980, 2209, &text[0..4], &text[5..7], &text[8..10])?;
+    let day = day_of_parts(
+        FIRST_YEAR,
+        LAST_YEAR,
+        &text[0..4],
+        &text[5..7],
+        &text[8..10],
+    )?;
     let second = second_of_parts(&text[11..13], &text[14..16], &text[17..19])?;
     Some(86_400 * i64::from(day) + i64::from(second))
 }

@@ -7,6 +7,7 @@ ghost use Rattle.field_text.specs.Grammars.{time};
 
 use crate::digits::digits_within;
 use crate::parts::split_at_byte;
+use flex_model::limits::GREATEST_HOURS;
 
 /// A text that is no time.
 #[derive(Clone, Copy, Debug, PartialEq, Eq)]
@@ -18,7 +19,7 @@ fn seconds_of(text: &[u8]) -> Option<u32>
 {
     let (hours, rest) = split_at_byte(text, b':');
     let (minutes, seconds) = split_at_byte(rest, b':');
-    let hours = digits_within(hours, 1, 3, 167)?;
+    let hours = digits_within(hours, 1, 3, GREATEST_HOURS)?;
     let minutes = digits_within(minutes, 2, 2, 59)?;
     let seconds = digits_within(seconds, 2, 2, 59)?;
     Some((3_600 * hours + 60 * minutes + seconds) as u32)

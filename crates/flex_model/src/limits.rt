@@ -7,6 +7,18 @@ pub const GREATEST_LATITUDE: i64 = 90_000_000_000_000_000;
 /// The greatest longitude, in 10^-15 degree east or west of Greenwich.
 pub const GREATEST_LONGITUDE: i64 = 180_000_000_000_000_000;
 
+/// How many bytes the text of a degree may have.
+pub const MOST_DEGREE_BYTES: usize = 64;
+
+/// The greatest hours of a time of a service day, which is up to 167:59:59.
+pub const GREATEST_HOURS: u64 = 167;
+
+/// The first year of moments that are read and printed.
+pub const FIRST_YEAR: u64 = 1980;
+
+/// The last year of moments that are read and printed.
+pub const LAST_YEAR: u64 = 2209;
+
 /// The greatest `stop_sequence` of `stop_times.txt`.
 pub const GREATEST_SEQUENCE: u64 = 4_294_967_294;
 

@@ -1,7 +1,7 @@
 -- The checks of a feature and of its geometry, by what was read of them.
 use Rattle.std.proofs.Common.{◌≡◌, ◌∙◌, ◌&&◌, ◌||◌, ℕ, List, [], ◌∷◌, ◌++◌, Bool, true, false, if◌then◌else◌, IfOk, None, Result, ap, length, map, nat_lt, refl, subst, sym}
 use Rattle.std.specs.List.{flat_map}
-use Rattle.feed_meaning.specs.Locations.{Check, Json, check, check_member, checks, feature_checks, feature_nodes, geometry_checks, is_filled_list, is_word, member, polygon_checks, polygons}
+use Rattle.feed_meaning.specs.Locations.{Check, Json, check, check_member, checks, feature_checks, feature_nodes, geometry_checks, is_filled_array, is_word, member, polygon_checks, polygons}
 use Rattle.flex_model.specs.declared.fault.FaultCode.TheVariants.{GeoShape}
 use Rattle.flex_model.specs.declared.place.Polygon.{Polygon}
 use Rattle.geo_json.specs.Features.{own_checks, root_checks}
@@ -57,10 +57,10 @@ module _ (json : Json) (g : ℕ) where
   typed = check_member json g "type" (λ v. is_word json "Polygon" v || is_word json "MultiPolygon" v) ∷ []
 
   abbrev listed : List Check
-  listed = check_member json g "coordinates" json.is_list ∷ []
+  listed = check_member json g "coordinates" json.is_array ∷ []
 
   abbrev filled : List Check
-  filled = check (is_filled_list json (member json g "coordinates")) (json.place (member json g "coordinates")) GeoShape ∷ []
+  filled = check (is_filled_array json (member json g "coordinates")) (json.place (member json g "coordinates")) GeoShape ∷ []
 
   abbrev inner : List Check
   inner = flat_map (polygon_checks json) (polygons json g)
@@ -75,20 +75,20 @@ module _ (json : Json) (g : ℕ) where
     before : first_fault (typed ++ listed) ≡ None
     before = clear_both typed listed form list
 
-    pub empty_coordinates : (refusal : WalkRefusal) → is_filled_list json coordinates ≡ false → refusal ≡ Fault GeoShape (json.place coordinates) → Refuses (geometry_checks json g) refusal
+    pub empty_coordinates : (refusal : WalkRefusal) → is_filled_array json coordinates ≡ false → refusal ≡ Fault GeoShape (json.place coordinates) → Refuses (geometry_checks json g) refusal
     empty_coordinates refusal empty e =
         refuses_after (typed ++ listed) (filled ++ inner) refusal before
         (refused (filled ++ inner) (json.place (member json g "coordinates")) GeoShape refusal (e ∙ ap (λ n. Fault GeoShape (json.place n)) at)
-        (faulty (is_filled_list json (member json g "coordinates")) (json.place (member json g "coordinates")) GeoShape inner (ap (is_filled_list json) (sym at) ∙ empty)))
+        (faulty (is_filled_array json (member json g "coordinates")) (json.place (member json g "coordinates")) GeoShape inner (ap (is_filled_array json) (sym at) ∙ empty)))
 
     same_parts : (told : Form) → told ≡ form_in json g → parts told json coordinates ≡ polygons json g
     same_parts told is = ap (λ n. parts told json n) at ∙ ap (λ z. parts z json (member json g "coordinates")) is ∙ parts_are json g
 
-    pub good_coordinates : {T : Type 0} (told : Form) (result : Result T WalkRefusal) → told ≡ form_in json g → is_filled_list json coordinates ≡ true
+    pub good_coordinates : {T : Type 0} (told : Form) (result : Result T WalkRefusal) → told ≡ form_in json g → is_filled_array json coordinates ≡ true
         → TellsFirst (flat_map (polygon_checks json) (parts told json coordinates)) result → TellsFirst (geometry_checks json g) result
     good_coordinates told result is full tells =
         goes_on (typed ++ listed) (filled ++ inner) result before
-        (goes_on filled inner result (clear (is_filled_list json (member json g "coordinates")) (json.place (member json g "coordinates")) GeoShape (ap (is_filled_list json) (sym at) ∙ full))
+        (goes_on filled inner result (clear (is_filled_array json (member json g "coordinates")) (json.place (member json g "coordinates")) GeoShape (ap (is_filled_array json) (sym at) ∙ full))
         (subst (λ z. TellsFirst (flat_map (polygon_checks json) z) result) (same_parts told is) tells))
 
     pub good_polygons : (told : Form) (f : ℕ → Polygon) (result : Result (List Polygon) WalkRefusal) → told ≡ form_in json g
@@ -103,7 +103,7 @@ module _ (json : Json) (collection : ℕ) (at : collection ≡ json.root) (is : 
   root_type node = check_member json node "type" (is_word json "FeatureCollection") ∷ []
 
   abbrev root_list : ℕ → List Check
-  root_list node = check_member json node "features" json.is_list ∷ []
+  root_list node = check_member json node "features" json.is_array ∷ []
 
   root_is : first_fault root_shape ≡ None
   root_is = clear (json.is_object json.root) (json.place json.root) GeoShape (ap json.is_object (sym at) ∙ is)

@@ -19,7 +19,7 @@ enough n m e l = grind (arith, nat_tests)
 
 module _ (json : Json) (ring : ℕ) where
   abbrev shape : List Check
-  shape = check (json.is_list ring) (json.place ring) GeoShape ∷ []
+  shape = check (json.is_array ring) (json.place ring) GeoShape ∷ []
 
   abbrev positions : List Check
   positions = flat_map (position_checks json) (json.items ring)
@@ -27,13 +27,13 @@ module _ (json : Json) (ring : ℕ) where
   abbrev ends : List Check
   ends = check (nat_le 4 (length (json.items ring))) (json.place ring) RingShort ∷ check (closes (corners json ring)) (json.place ring) RingOpen ∷ []
 
-  pub bad_position : (refusal : WalkRefusal) → json.is_list ring ≡ true → Refuses positions refusal → Refuses (ring_checks json ring) refusal
-  bad_position refusal list refuses = refuses_among shape positions ends refusal (clear (json.is_list ring) (json.place ring) GeoShape list) refuses
+  pub bad_position : (refusal : WalkRefusal) → json.is_array ring ≡ true → Refuses positions refusal → Refuses (ring_checks json ring) refusal
+  bad_position refusal list refuses = refuses_among shape positions ends refusal (clear (json.is_array ring) (json.place ring) GeoShape list) refuses
 
-  before : json.is_list ring ≡ true → first_fault positions ≡ None → first_fault (shape ++ positions) ≡ None
-  before list none = clear_both shape positions (clear (json.is_list ring) (json.place ring) GeoShape list) none
+  before : json.is_array ring ≡ true → first_fault positions ≡ None → first_fault (shape ++ positions) ≡ None
+  before list none = clear_both shape positions (clear (json.is_array ring) (json.place ring) GeoShape list) none
 
-  module _ (made : List Position) (is : made ≡ corners json ring) (list : json.is_list ring ≡ true) (none : first_fault positions ≡ None) where
+  module _ (made : List Position) (is : made ≡ corners json ring) (list : json.is_array ring ≡ true) (none : first_fault positions ≡ None) where
     count : length made ≡ length (json.items ring)
     count = ap length is ∙ length-map (json.items ring) (position_of json)
 

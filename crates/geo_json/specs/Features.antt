@@ -18,7 +18,7 @@ abbrev pub root_checks : Json → List Check
 root_checks json =
     check (json.is_object json.root) (json.place json.root) GeoShape
     ∷ check_member json json.root "type" (is_word json "FeatureCollection")
-    ∷ check_member json json.root "features" json.is_list
+    ∷ check_member json json.root "features" json.is_array
     ∷ []
 
 -- The fault of a scan is found before every other.

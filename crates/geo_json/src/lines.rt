@@ -17,7 +17,7 @@ fn line_feeds(bytes: &[u8]) -> u64
 #[derive(Drop)]
 pub(crate) struct Lines<'a> {
     text: &'a [u8],
-    place: usize,
+    offset: usize,
     line: u64,
 }
 
@@ -30,8 +30,8 @@ impl<'a> Model for Lines<'a> {
     ghost view = { λ lines. lines.text.now };
 
     ghost invariant = { λ lines. (length lines.text.now < 2 ^ 32)
-        × (lines.place ≤ length lines.text.now)
-        × (lines.line ≡ row_at lines.text.now lines.place) };
+        × (lines.offset ≤ length lines.text.now)
+        × (lines.line ≡ row_at lines.text.now lines.offset) };
 }
 
 impl<'a> Lines<'a> {
@@ -41,32 +41,32 @@ impl<'a> Lines<'a> {
     {
         Lines {
             text: text.as_bytes(),
-            place: 0,
+            offset: 0,
             line: 1,
         }
     }
 
-    /// A place up to this one from which to count, with its line.
-    fn start_for(&self, place: usize) -> (usize, u64)
-        ensures before { result.0 ≤ place }
+    /// An offset up to this one from which to count, with its line.
+    fn start_for(&self, offset: usize) -> (usize, u64)
+        ensures before { result.0 ≤ offset }
         ensures line { result.1 ≡ row_at self.now result.0 }
     {
-        if place < self.place {
+        if offset < self.offset {
             (0, 1)
         } else {
-            (self.place, self.line)
+            (self.offset, self.line)
         }
     }
 
-    /// The line of a place, counted from 1.
-    pub(crate) fn line_at(&mut self, place: u64) -> u64
-        ensures line { result ≡ row_at self.old place }
+    /// The line of an offset, counted from 1.
+    pub(crate) fn line_at(&mut self, offset: u64) -> u64
+        ensures line { result ≡ row_at self.old offset }
         ensures same { self.new ≡ self.old }
     {
-        let end = (place as usize).min(self.text.len());
+        let end = (offset as usize).min(self.text.len());
         let (start, line) = self.start_for(end);
         self.line = line + line_feeds(&self.text[start..end]);
-        self.place = end;
+        self.offset = end;
         self.line
     }
 }

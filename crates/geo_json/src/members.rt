@@ -60,7 +60,7 @@ pub(crate) fn text_member(
 pub(crate) fn array_member(json: &JsonText<'_>, object: u32, name: &str) -> Result<u32, WalkRefusal>
     requires { IsThere json.now is_object_value object }
     ensures faults { (j : Json) → IsJsonOf json.now j
-        → TellsFirst (check_named j object name.now j.is_list ∷ []) result }
+        → TellsFirst (check_named j object name.now j.is_array ∷ []) result }
     ensures value { (j : Json) → IsJsonOf json.now j
         → IfOk result (λ value. value ≡ unwrap_or (j.member object name.now) object) }
     ensures there { IfOk result (IsThere json.now is_array_value) }

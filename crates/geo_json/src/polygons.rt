@@ -2,7 +2,7 @@
 
 ghost use Rattle.std.specs.Prelude.{◌≡◌, List, [], ◌∷◌, IfOk, IsTrue, map};
 ghost use Rattle.std.specs.List.{flat_map};
-ghost use Rattle.feed_meaning.specs.Locations.{Json, corners, is_filled_list, polygon_checks, polygon_of, ring_checks};
+ghost use Rattle.feed_meaning.specs.Locations.{Json, corners, is_filled_array, polygon_checks, polygon_of, ring_checks};
 ghost use Rattle.geo_json.specs.Forms.{parts};
 ghost use Rattle.geo_json.specs.Scans.{IsJsonOf, is_array_value};
 ghost use Rattle.geo_json.specs.Steps.{ring_of};
@@ -21,7 +21,7 @@ use std::alloc::Global;
 /// Whether the value is an array with an item.
 pub(crate) fn is_filled(json: &JsonText<'_>, node: u32) -> bool
     requires { IsThere json.now is_value node }
-    ensures value { (j : Json) → IsJsonOf json.now j → result ≡ is_filled_list j node }
+    ensures value { (j : Json) → IsJsonOf json.now j → result ≡ is_filled_array j node }
     ensures array { IsTrue result → IsThere json.now is_array_value node }
 {
     if !is_array(json, node) {

@@ -35,7 +35,7 @@ fn first_two(json: &JsonText<'_>, array: u32) -> Option<(u32, u32)>
 fn coordinates(json: &JsonText<'_>, position: u32) -> Option<(u32, u32)>
     requires { IsThere json.now is_value position }
     ensures shape { (j : Json) → IsJsonOf json.now j → is_some result
-        ≡ (j.is_list position && nat_le 2 (length (j.items position))
+        ≡ (j.is_array position && nat_le 2 (length (j.items position))
         && j.is_number (longitude j position) && j.is_number (latitude j position)) }
     ensures value { (j : Json) → IsJsonOf json.now j → IfSome result
         (λ two. (two.0 ≡ longitude j position) × (two.1 ≡ latitude j position)) }

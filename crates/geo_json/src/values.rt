@@ -34,7 +34,7 @@ pub(crate) fn is_object(json: &JsonText<'_>, node: u32) -> bool
 
 pub(crate) fn is_array(json: &JsonText<'_>, node: u32) -> bool
     requires { IsThere json.now is_value node }
-    ensures value { (j : Json) → IsJsonOf json.now j → result ≡ j.is_list node }
+    ensures value { (j : Json) → IsJsonOf json.now j → result ≡ j.is_array node }
     ensures array { IsTrue result → IsThere json.now is_array_value node }
 {
     matches!(json.kind(node), JsonKind::Array)

@@ -10,7 +10,7 @@ use Rattle.flex_model.specs.Triple.{CoversPair, IsPairBefore}
 use Rattle.flex_model.specs.Deadline.{IsNoLater}
 use Rattle.flex_model.proofs.Found.{All-from_contains}
 use Rattle.flex_model.proofs.Orders.{IsNoLater_total, pairs_compared}
-use Rattle.label_bag.specs.Bag.{AreUncovered, AreWithin, HasCovering, IsApart, IsBag, IsPlaceOf, IsWithout}
+use Rattle.label_bag.specs.Bag.{AreUncovered, AreWithin, HasCovering, IsApart, IsBag, IsIndexFor, IsWithout}
 use Rattle.label_bag.proofs.Splices.{filter_all, filter_keeps, filter_loses, in_back, in_front, in_whole, pairs_spliced, spliced_cases, spliced_here, spliced_keeps}
 use Rattle.label_bag.proofs.Tests.{covers_none_before, decide_uncovered, of_true, to_bool, true_of}
 
@@ -102,7 +102,7 @@ module _ {T : Type 0} (entries : List (Pair × T)) (pair : Pair) (item : T) (at 
       ∙ ap (λ these. (front ++ (pair, item) ∷ []) ++ filter (stays_test pair) these) second
       ∙ append_assoc front ((pair, item) ∷ []) (filter (stays_test pair) back)
 
-  module _ (place : IsPlaceOf entries pair at) (bag : IsBag entries) (free : HasCovering entries pair → ⊥) where
+  module _ (place : IsIndexFor entries pair at) (bag : IsBag entries) (free : HasCovering entries pair → ⊥) where
     entry_free : (k : ℕ) (d : Pair × T) → k < length entries → CoversPair (get_or entries k d).0 pair → ⊥
     entry_free k d within covers = free (get_or entries k d, (k, within, get_or_default entries k (get_or entries k d) d within), covers)
 

@@ -9,7 +9,7 @@ use Rattle.flex_model.specs.declared.answer.Pair.{Pair}
 use Rattle.flex_model.specs.Deadline.{IsNoLater}
 use Rattle.flex_model.specs.Triple.{CoversPair, IsPairBefore}
 use Rattle.flex_model.proofs.Orders.{IsNoLater_total, IsNoLater_trans, IsPairBefore_trans}
-use Rattle.label_bag.specs.Bag.{AreUncovered, HasCovering, IsBag, IsCountByThen, IsPlaceOf}
+use Rattle.label_bag.specs.Bag.{AreUncovered, HasCovering, IsBag, IsCountByThen, IsIndexFor}
 use Rattle.label_bag.proofs.Tests.{decide_before, no_later, of_true, same_test, to_bool, true_of}
 
 both : true ≡ false → ⊥
@@ -64,7 +64,7 @@ module _ {T : Type 0} (entries : List (Pair × T)) (pair : Pair) where
     | inr (inr more) ↦ absurd (omega arith)
   ]
 
-  pub placed : (at : ℕ) → at ≤ length entries → IsPartitionPoint (λ entry. before_test pair entry ≡ true) (λ entry. before_test pair entry ≡ false) entries at → IsPlaceOf entries pair at
+  pub placed : (at : ℕ) → at ≤ length entries → IsPartitionPoint (λ entry. before_test pair entry ≡ true) (λ entry. before_test pair entry ≡ false) entries at → IsIndexFor entries pair at
   placed at within point = record {
     within = within;
     before = λ k d lt. of_true (decide_before (slice_index_or entries k d).0 pair) (point.0 k d (omega arith) lt);

@@ -41,7 +41,7 @@ pub record IsCountByThen {T : Type 0} (entries : List (Pair × T)) (arrival : �
       → arrival <ℤ (slice_index_or entries k d).0.arrival
 
 -- So many of the pairs, the first ones, stand before this one.
-pub record IsPlaceOf {T : Type 0} (entries : List (Pair × T)) (pair : Pair) (at : ℕ) : Type 0 where
+pub record IsIndexFor {T : Type 0} (entries : List (Pair × T)) (pair : Pair) (at : ℕ) : Type 0 where
   pub within : at ≤ length entries
   pub before : (k : ℕ) (d : Pair × T) → k < at → IsPairBefore (slice_index_or entries k d).0 pair
   pub behind : (k : ℕ) (d : Pair × T) → at ≤ k → k < length entries

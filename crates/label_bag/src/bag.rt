@@ -4,7 +4,7 @@ ghost use Rattle.std.specs.Prelude.{◌≡◌, ◌↔◌, ◌⊎◌, ◌++◌, �
 ghost use Rattle.flex_model.specs.Triple.{CoversPair};
 ghost use Rattle.label_bag.specs.Bag.{HasCovering, IsBag, IsBestBy};
 
-use crate::places::{is_covered, latest_by, place_of, reach, take_out};
+use crate::indices::{index_for, is_covered, latest_by, reach, take_out};
 use flex_model::{Deadline, Moment, NoMemory, Pair};
 use std::alloc::Allocator;
 use std::marker::Model;
@@ -66,7 +66,7 @@ impl<T: Copy, A: Allocator> Bag<T, A> {
         if is_covered(self.entries.as_slice(), &pair) {
             return Ok(Offered::Covered);
         }
-        let at = place_of(self.entries.as_slice(), &pair);
+        let at = index_for(self.entries.as_slice(), &pair);
         let end = reach(self.entries.as_slice(), at, &pair);
         self.entries.insert(at, (pair, item))?;
         take_out(&mut self.entries, at + 1, end + 1, &pair);

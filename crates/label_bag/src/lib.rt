@@ -2,8 +2,8 @@
 #![tactic(auto)]
 
 mod bag;
+mod indices;
 mod pairs;
-mod places;
 
 pub use bag::{Bag, Offered};
 pub use flex_model::Pair;

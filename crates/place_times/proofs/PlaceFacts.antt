@@ -12,7 +12,7 @@ use Rattle.flex_model.specs.declared.feed.Feed.{Feed}
 use Rattle.flex_model.specs.declared.place.Place.TheVariants as place
 use Rattle.flex_model.specs.declared.place.Point.{Point}
 use Rattle.flex_model.specs.declared.place.Stop.{Stop}
-use Rattle.feed_meaning.specs.FeedValue.{place_of}
+use Rattle.feed_meaning.specs.FeedValue.{first_index}
 use Rattle.feed_meaning.specs.Rules.{Values}
 use Rattle.feed_meaning.specs.TimesFaults.{is_boarding_stop, is_place, is_stop}
 use Rattle.feed_meaning.specs.TimesValue.{place_named, point_of}
@@ -76,7 +76,7 @@ module _ (feed : Feed) (points : List Point) (ids : PlaceIds) (are : ArePlaceIds
     pub found_stop : place.Stop s ≡ place_named feed points text
     found_stop =
         ap place.Stop (sym (ap (λ o. unwrap_or o 0) at))
-        ∙ ap (λ b. if b then place.Stop (place_of is_it feed.stops) else place.Point (place_of (λ point. bytes_eq text point.id) points)) (sym stop-is)
+        ∙ ap (λ b. if b then place.Stop (first_index is_it feed.stops) else place.Point (first_index (λ point. bytes_eq text point.id) points)) (sym stop-is)
 
   module _ (absent : None ≡ position (bytes_eq text) ids.stops) where
     stop-absent : is_stop feed text ≡ false
@@ -89,7 +89,7 @@ module _ (feed : Feed) (points : List Point) (ids : PlaceIds) (are : ArePlaceIds
     pub found_point : (o : Option ℕ) (k : ℕ) → o ≡ position (bytes_eq text) ids.points → k ≡ unwrap_or o 0 → place.Point k ≡ place_named feed points text
     found_point o k found is =
         ap place.Point (is ∙ ap (λ p. unwrap_or p 0) (found ∙ ap (position (bytes_eq text)) are.point_ids ∙ position-map (λ (point : Point). point.id) (bytes_eq text) points))
-        ∙ ap (λ b. if b then place.Stop (place_of is_it feed.stops) else place.Point (place_of (λ point. bytes_eq text point.id) points)) (sym stop-absent)
+        ∙ ap (λ b. if b then place.Stop (first_index is_it feed.stops) else place.Point (first_index (λ point. bytes_eq text point.id) points)) (sym stop-absent)
 
 -- ---- a text that is a place
 

@@ -14,7 +14,7 @@ use Rattle.flex_model.specs.declared.place.Place.TheVariants as place
 use Rattle.flex_model.specs.declared.place.Stop.{Stop}
 use Rattle.flex_model.specs.declared.times.Times.{Times}
 use Rattle.flex_model.specs.SoundFeed.{IsSoundFeed}
-use Rattle.feed_meaning.specs.FeedValue.{place_of}
+use Rattle.feed_meaning.specs.FeedValue.{first_index}
 use Rattle.feed_meaning.specs.QueryFaults.{is_point, place_rule}
 use Rattle.feed_meaning.specs.Rules.{Rule, first_of, is_empty, rule}
 use Rattle.feed_meaning.specs.TimesFaults.{is_boarding_stop, is_stop}
@@ -94,7 +94,7 @@ module _ (feed : Feed) (times : Times) (sound : IsSoundFeed feed) (text : List �
         let p = is_point times text in (
           rules-same (is_empty text) false (is_stop feed text) true p p (is_boarding_stop feed text) true given stop-is refl (boards-same ∙ boarded),
           ap place.Stop (sym (ap (λ o. unwrap_or o 0) at))
-              ∙ ap (λ b. if b then place.Stop (place_of is_it feed.stops) else place.Point (place_of (λ point. bytes_eq text point.id) times.points)) (sym stop-is),
+              ∙ ap (λ b. if b then place.Stop (first_index is_it feed.stops) else place.Point (first_index (λ point. bytes_eq text point.id) times.points)) (sym stop-is),
         )
 
   module _ (absent : position (bytes_eq text) (map (λ stop. stop.id) feed.stops) ≡ None) where
@@ -109,7 +109,7 @@ module _ (feed : Feed) (times : Times) (sound : IsSoundFeed feed) (text : List �
         let is : is_point times text ≡ true = some_passes (λ point. bytes_eq text point.id) times.points k (record { id = []; at = record { lon = pos 0; lat = pos 0 } }) at in (
           rules-same (is_empty text) false (is_stop feed text) false (is_point times text) true b b given stop-absent is refl,
           ap place.Point (sym (ap (λ o. unwrap_or o 0) at))
-              ∙ ap (λ c. if c then place.Stop (place_of is_it feed.stops) else place.Point (place_of (λ point. bytes_eq text point.id) times.points)) (sym stop-absent),
+              ∙ ap (λ c. if c then place.Stop (first_index is_it feed.stops) else place.Point (first_index (λ point. bytes_eq text point.id) times.points)) (sym stop-absent),
         )
 
     pub no_place : position (bytes_eq text) (map (λ point. point.id) times.points) ≡ None → place_rule feed times text ≡ Some code.UnknownId

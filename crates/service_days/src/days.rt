@@ -35,7 +35,7 @@ pub fn begin(days: &DayTable, day: i32) -> Option<Moment>
     ensures high { IfSome result (λ base. base ≤ℤ pos 10000000000) }
 {
     let index = i64::from(day) - i64::from(days.first);
-    if index < 0 || 1526 <= index {
+    if index < 0 || TABLE_DAYS as i64 <= index {
         return None;
     }
     Some(days.base[index as usize])

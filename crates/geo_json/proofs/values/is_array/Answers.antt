@@ -8,7 +8,7 @@ use Rattle.geo_json.proofs.values.is_array.Goals as goal
 pub returns-in-Array-clause-value : goal.returns-in-Array-clause-value
 returns-in-Array-clause-value c = λ j of.
     sym (ap is_array_kind c.in-Array.is)
-    ∙ told c.args.json.now is_value c.args.node c.requires is_array_value is_array_kind c.kind.result array_kind c.kind.ensures of.tree of.spelled ∙ ap (λ z. z.is_list c.args.node) (sym of.values)
+    ∙ told c.args.json.now is_value c.args.node c.requires is_array_value is_array_kind c.kind.result array_kind c.kind.ensures of.tree of.spelled ∙ ap (λ z. z.is_array c.args.node) (sym of.values)
 
 pub returns-in-Array-clause-array : goal.returns-in-Array-clause-array
 returns-in-Array-clause-array c = λ holds.
@@ -18,6 +18,6 @@ pub returns-in_default : goal.returns-in_default
 returns-in_default c = record {
   value = λ j of.
       not_array c.kind.result c.in_default.not-Array
-      ∙ told c.args.json.now is_value c.args.node c.requires is_array_value is_array_kind c.kind.result array_kind c.kind.ensures of.tree of.spelled ∙ ap (λ z. z.is_list c.args.node) (sym of.values);
+      ∙ told c.args.json.now is_value c.args.node c.requires is_array_value is_array_kind c.kind.result array_kind c.kind.ensures of.tree of.spelled ∙ ap (λ z. z.is_array c.args.node) (sym of.values);
   array = λ holds. absurd (false≢true holds);
 }

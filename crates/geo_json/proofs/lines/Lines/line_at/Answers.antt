@@ -16,4 +16,4 @@ returns-clause-line c =
     let start = c.start_for-start.result in
     let told = subst (λ t. start.1 ≡ row_at t start.0) (sym c.self.view_is) c.start_for-start.ensures.line in
     row_on text start.0 c.min-end.result start.1 c.line_feeds.result c.start_for-start.ensures.before told c.line_feeds.ensures
-    ∙ ap (row_at text) c.min-end.ensures ∙ row_within text c.args.place ∙ ap (λ t. row_at t c.args.place) c.self.view_is
+    ∙ ap (row_at text) c.min-end.ensures ∙ row_within text c.args.offset ∙ ap (λ t. row_at t c.args.offset) c.self.view_is

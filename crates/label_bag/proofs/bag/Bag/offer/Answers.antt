@@ -1,7 +1,7 @@
 -- What is left of the entries is a bag, of the pair and those that it doesn't cover.
 use Rattle.std.proofs.Common.{◌≡◌, ◌⊎◌, ◌↔◌, ◌+◌, ◌++◌, ◌∷◌, max, true, false, Contains, IsErr, drop, filter, take, refl, sym, ◌∙◌, subst}
 use Rattle.flex_model.specs.Triple.{CoversPair}
-use Rattle.label_bag.specs.Bag.{HasCovering, IsBag, IsBagWithin, IsPlaceOf, IsWithout}
+use Rattle.label_bag.specs.Bag.{HasCovering, IsBag, IsBagWithin, IsIndexFor, IsWithout}
 use Rattle.label_bag.proofs.Offers.{left_over, offered_bag, offered_has, offered_within, stays_test}
 use Rattle.label_bag.proofs.bag.Bag.offer.Given.{Over}
 use Rattle.label_bag.proofs.bag.Bag.offer.Goals as goal
@@ -23,22 +23,22 @@ returns-in_err-insert-clause-covered g c = (
   λ h. absurd (free g (goal.at.returns-in_err-insert-clause-covered g c).Else-is_covered (subst (λ these. HasCovering these c.args.pair) (sym c.self.view_is) h)),
 )
 
-place : (g : Over) (c : After-take_out g) → IsPlaceOf c.self.inside.entries.items c.args.pair c.place_of-at.result
-place g c = subst (λ these. IsPlaceOf these c.args.pair c.place_of-at.result) c.as_slice-2.ensures.value c.place_of-at.ensures
+place : (g : Over) (c : After-take_out g) → IsIndexFor c.self.inside.entries.items c.args.pair c.index_for-at.result
+place g c = subst (λ these. IsIndexFor these c.args.pair c.index_for-at.result) c.as_slice-2.ensures.value c.index_for-at.ensures
 
 -- what is left
 left : (g : Over) (c : After-take_out g) → c.take_out.new.entries.items
-    ≡ take c.place_of-at.result c.self.inside.entries.items ++ (c.args.pair, c.args.item) ∷ filter (stays_test c.args.pair) (drop c.place_of-at.result c.self.inside.entries.items)
+    ≡ take c.index_for-at.result c.self.inside.entries.items ++ (c.args.pair, c.args.item) ∷ filter (stays_test c.args.pair) (drop c.index_for-at.result c.self.inside.entries.items)
 left g c =
     let entries = c.self.inside.entries.items in
-    let at = c.place_of-at.result in
+    let at = c.index_for-at.result in
     left_over entries c.args.pair c.args.item at c.take_out.new.entries.items (place g c).within
     (subst (λ these. IsWithout these c.args.pair (at + 1) c.take_out.new.entries.items) c.in_ok-insert.ensures.items c.take_out.ensures)
 
 pub invariant_of-self-2 : goal.invariant_of-self-2
 invariant_of-self-2 g c =
     let entries = c.self.inside.entries.items in
-    let at = c.place_of-at.result in
+    let at = c.index_for-at.result in
     let was = (goal.at.invariant_of-self-2 g c).After-take_out in
     let free_ = free g (goal.at.invariant_of-self-2 g c).Else-is_covered in
     subst (λ longest. IsBagWithin c.take_out.new.entries.items longest) (sym c.max-self-inside.ensures)
@@ -57,7 +57,7 @@ pub returns-clause-added : goal.returns-clause-added
 returns-clause-added g c e entry =
     let entries = c.self.inside.entries.items in
     let was = (goal.at.returns-clause-added g c).After-take_out in
-    let has = offered_has entries c.args.pair c.args.item c.place_of-at.result (place g was) c.self.invariant.apart (free g (goal.at.returns-clause-added g c).Else-is_covered) entry in
+    let has = offered_has entries c.args.pair c.args.item c.index_for-at.result (place g was) c.self.invariant.apart (free g (goal.at.returns-clause-added g c).Else-is_covered) entry in
     subst (λ these. Contains c.take_out.new.entries.items entry ↔ ((entry ≡ (c.args.pair, c.args.item)) ⊎ (Contains these entry × (CoversPair c.args.pair entry.0 → ⊥)))) c.self.view_is
     (subst (λ these. Contains these entry ↔ ((entry ≡ (c.args.pair, c.args.item)) ⊎ (Contains entries entry × (CoversPair c.args.pair entry.0 → ⊥)))) (sym (left g was)) has)
 
@@ -65,4 +65,4 @@ pub returns-clause-apart : goal.returns-clause-apart
 returns-clause-apart g c =
     let was = (goal.at.returns-clause-apart g c).After-take_out in
     subst IsBag (sym (left g was))
-    (offered_bag c.self.inside.entries.items c.args.pair c.args.item c.place_of-at.result (place g was) c.self.invariant.apart (free g (goal.at.returns-clause-apart g c).Else-is_covered))
+    (offered_bag c.self.inside.entries.items c.args.pair c.args.item c.index_for-at.result (place g was) c.self.invariant.apart (free g (goal.at.returns-clause-apart g c).Else-is_covered))

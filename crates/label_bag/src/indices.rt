@@ -2,7 +2,7 @@
 
 ghost use Rattle.std.specs.Prelude.{◌≡◌, ◌↔◌, ◌≤◌, ◌<◌, All, IsTrue, int_le, length};
 ghost use Rattle.flex_model.specs.Triple.{IsPairBefore};
-ghost use Rattle.label_bag.specs.Bag.{AreUncovered, AreWithin, HasCovering, IsBag, IsBestBy, IsCountByThen, IsPlaceOf, IsWithout};
+ghost use Rattle.label_bag.specs.Bag.{AreUncovered, AreWithin, HasCovering, IsBag, IsBestBy, IsCountByThen, IsIndexFor, IsWithout};
 
 use crate::pairs::{comes_before, covers, is_later, later};
 use flex_model::{Deadline, Moment, Pair};
@@ -22,9 +22,9 @@ fn count_by_then<T: Copy>(entries: &[(Pair, T)], arrival: &Moment) -> usize
 }
 
 // How many pairs stand before this one.
-pub(crate) fn place_of<T: Copy>(entries: &[(Pair, T)], pair: &Pair) -> usize
+pub(crate) fn index_for<T: Copy>(entries: &[(Pair, T)], pair: &Pair) -> usize
     requires { IsBag entries.now }
-    ensures { IsPlaceOf entries.now pair.now result }
+    ensures { IsIndexFor entries.now pair.now result }
 {
     let limit = *pair;
     entries.partition_point(
@@ -54,7 +54,7 @@ pub(crate) fn is_covered<T: Copy>(entries: &[(Pair, T)], pair: &Pair) -> bool
     false
 }
 
-// Up to where, from its place on, pairs can be covered by this one. The first one that it doesn't
+// Up to where, from its index on, pairs can be covered by this one. The first one that it doesn't
 // cover and that walks no farther ends it, since it would cover each later one that this one
 // covers.
 pub(crate) fn reach<T: Copy>(entries: &[(Pair, T)], at: usize, pair: &Pair) -> usize
@@ -73,7 +73,7 @@ pub(crate) fn reach<T: Copy>(entries: &[(Pair, T)], at: usize, pair: &Pair) -> u
     entries.len()
 }
 
-// Takes those out from the one place to the other that the pair covers.
+// Takes those out from the one index to the other that the pair covers.
 pub(crate) fn take_out<T: Copy, A: Allocator>(
     entries: &mut Vec<(Pair, T), A>,
     from: usize,

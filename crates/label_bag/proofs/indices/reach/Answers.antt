@@ -2,7 +2,7 @@
 use Rattle.std.proofs.Common.{◌≤◌, sym, subst}
 use Rattle.flex_model.specs.Deadline.{IsNoLater}
 use Rattle.label_bag.proofs.Searches.{reach_ends}
-use Rattle.label_bag.proofs.places.reach.Goals as goal
+use Rattle.label_bag.proofs.indices.reach.Goals as goal
 
 pub returns-then-kept-pair-clause-beyond : goal.returns-then-kept-pair-clause-beyond
 returns-then-kept-pair-clause-beyond g c =

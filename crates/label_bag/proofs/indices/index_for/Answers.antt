@@ -2,7 +2,7 @@
 use Rattle.std.proofs.Common.{rules, of_calls}
 use Rattle.std.proofs.lemmas.Fn.{always_returns_same}
 use Rattle.label_bag.proofs.Searches.{before_same, before_test, befores_part, placed}
-use Rattle.label_bag.proofs.places.place_of.Goals as goal
+use Rattle.label_bag.proofs.indices.index_for.Goals as goal
 
 pub returns : goal.returns
 returns g c =

@@ -2,7 +2,7 @@
 use Rattle.std.proofs.Common.{◌≡◌, ◌+◌, ◌-◌, ◌<◌, ◌≤ℤ◌, true, false, length, refl, sym, subst, arith}
 use Rattle.flex_model.specs.Triple.{CoversPair}
 use Rattle.label_bag.proofs.Searches.{NoneCovers, none_covers, none_of_both, one_left, walk_decides}
-use Rattle.label_bag.proofs.places.is_covered.Goals as goal
+use Rattle.label_bag.proofs.indices.is_covered.Goals as goal
 
 not_true : false ≡ true → ⊥
 not_true e = cc

@@ -2,9 +2,9 @@
 use Rattle.std.proofs.Common.{◌≡◌, ◌⊎◌, ◌+◌, ◌-◌, ◌<◌, Some, length, sym, subst, le_refl, arith}
 use Rattle.flex_model.specs.Deadline.{IsNoLater}
 use Rattle.label_bag.proofs.Latest.{IsLatestOf, best_by, none_yet, one_more, walk_ends}
-use Rattle.label_bag.proofs.places.latest_by.Given.{Over}
-use Rattle.label_bag.proofs.places.latest_by.Goals as goal
-use Rattle.label_bag.proofs.places.latest_by.Goals.{After-later}
+use Rattle.label_bag.proofs.indices.latest_by.Given.{Over}
+use Rattle.label_bag.proofs.indices.latest_by.Goals as goal
+use Rattle.label_bag.proofs.indices.latest_by.Goals.{After-later}
 
 pub loop-left-init : goal.loop-left-init
 loop-left-init g c = record { within = le_refl c.count_by_then-left.result; latest = none_yet c.args.entries.now c.count_by_then-left.result }

@@ -1,7 +1,7 @@
 -- The covered ones of the entries that were looked at are out.
 use Rattle.std.proofs.Common.{◌≤◌, length}
 use Rattle.label_bag.specs.Bag.{IsWithout}
-use Rattle.label_bag.proofs.places.take_out.Given as goal
+use Rattle.label_bag.proofs.indices.take_out.Given as goal
 
 abbrev pub invariant-loop-left : goal.invariant-loop-left
 invariant-loop-left g l = record {

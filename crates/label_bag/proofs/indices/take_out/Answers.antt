@@ -2,7 +2,7 @@
 use Rattle.std.proofs.Common.{◌≡◌, ◌+◌, ◌-◌, ◌<◌, true, false, length, subst, le_refl, arith}
 use Rattle.label_bag.specs.Bag.{IsWithout}
 use Rattle.label_bag.proofs.Offers.{kept_left, none_out, out_left}
-use Rattle.label_bag.proofs.places.take_out.Goals as goal
+use Rattle.label_bag.proofs.indices.take_out.Goals as goal
 
 not_true : false ≡ true → ⊥
 not_true e = cc

@@ -2,7 +2,7 @@
 use Rattle.std.proofs.Common.{rules, of_calls, int_le}
 use Rattle.std.proofs.lemmas.Fn.{always_returns_same}
 use Rattle.label_bag.proofs.Searches.{arrivals_part, counted}
-use Rattle.label_bag.proofs.places.count_by_then.Goals as goal
+use Rattle.label_bag.proofs.indices.count_by_then.Goals as goal
 
 pub returns : goal.returns
 returns g c =
