@@ -1,4 +1,5 @@
 // What is printed, one put for each piece.
+
 ghost use Rattle.std.specs.Prelude.{◌≡◌, ◌≢◌, ◌≤◌, Err, IfOk, IsErrOf};
 ghost use Rattle.flex_io.specs.Outside.{Gains, HasFailed};
 ghost use Rattle.flex_model.specs.SoundQuery.{IsSoundQuery};
@@ -53,7 +54,8 @@ fn print_answer<O: Sink>(
     requires query { IsSoundQuery input.now.feed input.now.times query.now }
     requires transfers { query.now.transfers ≡ 0 }
     ensures printed { Gains (O.contents out.old) (O.contents out.new)
-        (Prints (IsAnswerText input.now.feed input.now.times input.now.zone) query.entry.now result) }
+        (Prints (IsAnswerText input.now.feed input.now.times input.now.zone) query.entry.now
+        result) }
     ensures counted { O.faults out.old ≤ O.faults out.new }
     ensures write_fault { IsErrOf result PutError.Failed
         → HasFailed (O.faults out.old) (O.faults out.new) }

@@ -1,4 +1,5 @@
 // The text of a list of faults.
+
 ghost use Rattle.std.specs.Prelude.{◌≡◌, ◌++◌, IfOk, OnOk};
 ghost use Rattle.flexplan.specs.Faults.{line_of, text_of};
 

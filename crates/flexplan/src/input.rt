@@ -1,4 +1,5 @@
 // The input of `plan`: its files, fetched in order and read.
+
 ghost use Rattle.std.specs.Prelude.{◌≡◌, ◌≢◌, ◌≤◌, ◌↔◌, All, Err, IfOk, IfSome, IsErrOf, IsTrue};
 ghost use Rattle.flex_io.specs.Outside.{HasFailed};
 ghost use Rattle.flex_model.specs.SoundFeed.{IsSoundFeed};

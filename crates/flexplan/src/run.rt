@@ -1,4 +1,5 @@
 // The top call and its stages.
+
 ghost use Rattle.std.specs.Prelude.{◌≡◌, ◌≢◌, ◌↔◌, ◌⊎◌, Err, Option, None, Some, IfSome, IsSome, IsErrOf};
 ghost use Rattle.flex_io.specs.Outside.{Gains, HasFailed};
 ghost use Rattle.flexplan.specs.Words.{lint, plan, paths, request, request_of, texts};

@@ -1,4 +1,5 @@
 // How a run ends.
+
 ghost use Rattle.std.specs.Prelude.{◌≡◌};
 ghost use Rattle.flexplan.specs.ExitNumber.{exit_number};
 ghost use Rattle.flexplan.specs.declared.status.Failure.TheVariants as failure;

@@ -4,9 +4,7 @@ ghost use Rattle.std.specs.Prelude.{None};
 
 use crate::run::run;
 use crate::status::Status;
-use feed_rules::{FeedBytes, RawFeed};
 use flex_io::{FetchError, Files, Got, MemFiles, MemSink};
-use flex_model::{InputFile, Listed, RawFile};
 use std::alloc::Global;
 use std::test::Fail;
 
@@ -566,34 +564,6 @@ fn other_words_are_wrong(rt: HostRuntime) -> Result<(), Fail> {
         assert_eq!(rt; ended.status, Status::Usage);
         assert!(rt; ended.out.bytes().is_empty());
         assert_eq!(rt; ended.err.bytes(), b"flexplan: usage\n".as_slice());
-    }
-    Ok(())
-}
-
-// One zone, after a byte order mark.
-const ONE_ZONE: &[u8] =
-    b"\xEF\xBB\xBF{\"type\":\"FeatureCollection\",\"features\":[{\"type\":\"Feature\",\"id\":\"Z\",\"properties\":{},\"geometry\":{\"type\":\"Polygon\",\"coordinates\":[[[4.99,49.99],[5.05,49.99],[5.05,50.01],[4.99,50.01],[4.99,49.99]]]}}]}";
-
-// `plan` and `lint` don't read them yet.
-#[test]
-fn zones_of_a_feed_are_read(rt: HostRuntime) -> Result<(), Fail> {
-    let cases: [(Option<&[u8]>, Option<(u64, &str)>); 3] = [
-        (Some(ONE_ZONE), Some((1, "Z"))),
-        (Some(b"{\"type\":"), None),
-        (None, None),
-    ];
-    for (text, zone) in cases {
-        let mut bytes = FeedBytes::new();
-        if let Some(text) = text {
-            assert!(rt; text.len() < 1000);
-            let text = Listed::from_vec(Vec::from_slice(rt.alloc(), text)?);
-            bytes.set(InputFile::Locations, RawFile::Bytes(text));
-        }
-        let raw = RawFeed::read(rt.alloc(), &bytes)?;
-        let zones = raw.zones().map(|zones| zones.as_slice());
-        let first = zones.and_then(|zones| zones.first());
-        assert_eq!(rt; zones.map(|zones| zones.len()), zone.map(|_| 1));
-        assert_eq!(rt; first.map(|first| (first.line, first.id.as_str())), zone);
     }
     Ok(())
 }

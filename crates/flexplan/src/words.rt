@@ -1,4 +1,5 @@
 // The words of the command line, read by hand: no memory is needed to refuse them.
+
 ghost use Rattle.std.specs.Prelude.{◌≡◌};
 ghost use Rattle.std.specs.Option.{option_map};
 ghost use Rattle.flexplan.specs.Words.{paths, request, request_of, texts, is_path, one_path, three_paths};

@@ -10,6 +10,7 @@ ghost use Rattle.flex_model.specs.PlainFeed.{IsPlainFeed};
 
 use super::earliest::earlier;
 use super::rows::{TripDay, best_of_rows};
+use flex_model::limits::{TABLE_DAYS, TRAVEL_DAYS};
 use flex_model::{DayTable, Feed, Query, Ride};
 use service_days::is_running;
 
@@ -42,7 +43,7 @@ fn best_of_trip(feed: &Feed, days: &DayTable, query: &Query, trip: u32) -> Optio
         → IsEarliest (IsCandidateOf feed.now times days.now query.entry.now trip) result }
 {
     let mut best = None;
-    for index in 1_504..1_526_u32 {
+    for index in (TABLE_DAYS - TRAVEL_DAYS) as u32..TABLE_DAYS as u32 {
         let on = TripDay {
             trip,
             day: days.first + index as i32,
