@@ -34,6 +34,9 @@ not_itself lt = omega arith
 three_days : IsBack feed None (pos 20243) 3 (pos 20240)
 three_days = refl
 
+not_four_days : IsBack feed None (pos 20243) 3 (pos 20239) → ⊥
+not_four_days e = let f : pos 20239 +ℤ pos 3 ≡ pos 20243 = e in omega (arith, ints)
+
 -- the first ride alone gets to N
 first_part : (horizon : ℕ) → 20 ≤ horizon → IsPartialJourney feed times days (query horizon) (first_ride ∷ [])
 first_part horizon late = record {
