@@ -166,13 +166,13 @@ at_no_other_point : IsLabelPlace feed (query 60) (place.Point 1) → ⊥
 at_no_other_point e = cc
 
 -- a second too late for its record's time, the first ride has a wrong departure, and no flaw before it
-abbrev late_ride : Ride
+abbrev pub late_ride : Ride
 late_ride = record first_ride { departs = pos 1749024001 }
 
 here : IsBetween feed late_ride first_trip (row 1 0 28800) (row 2 1 30000)
 here = record { of_trip = refl; at_boarding = refl; at_alighting = refl; in_order = lit< tt }
 
-departs_wrongly : IsFirstFlaw feed times days late_ride WrongDeparture
+pub departs_wrongly : IsFirstFlaw feed times days late_ride WrongDeparture
 departs_wrongly = record { fails = fails; first = earlier }
   where
     fails : Passes feed times days late_ride WrongDeparture → ⊥
