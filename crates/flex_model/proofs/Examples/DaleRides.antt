@@ -10,7 +10,7 @@ use Rattle.flex_model.specs.declared.times.Times.{Times}
 use Rattle.flex_model.specs.declared.trip.Spot.TheVariants as spot
 use Rattle.flex_model.specs.Answer.{IsExactAnswer, IsParetoBest}
 use Rattle.flex_model.specs.Booking.{IsBookable, IsDeadline}
-use Rattle.flex_model.specs.Journey.{Attains}
+use Rattle.flex_model.specs.Journey.{Attains, IsLeastDeadline}
 use Rattle.flex_model.specs.Place.{Serves}
 use Rattle.flex_model.specs.Ride.{IsPermittedRide, Leaves}
 use Rattle.flex_model.specs.Run.{IsRunOf}
@@ -18,7 +18,7 @@ use Rattle.flex_model.specs.Zone.{is_in_zone}
 use Rattle.std.proofs.lemmas.Bool.{false≢true}
 use Rattle.flex_model.proofs.Bookings.{pickup_booking}
 use Rattle.flex_model.proofs.Examples.Dale.{alighting, answer, at, attained, begins_at, bookable, boarding, days, exact, feed, is_booked, is_departure, leg, permitted, query, ride, run, run_permitted, stop, times, travels, trip, weekdays, zone}
-use Rattle.flex_model.proofs.Found.{index_of, only_item}
+use Rattle.flex_model.proofs.Found.{index_of, only_contained, only_item}
 use Rattle.std.proofs.lemmas.Option.{none-some, same_Some}
 
 -- it can be booked at noon of the day before
@@ -28,6 +28,10 @@ at_noon = bookable (pos 1748952000) (omega (arith, ints))
 -- its deadline is no other
 not_never : IsDeadline (feed 36000) days ride Never → ⊥
 not_never h = h (Some 0) (pickup_booking (feed 36000) (times 600) days ride permitted (Some 0) refl)
+
+-- nor is that of the ride alone
+not_least : IsLeastDeadline (feed 36000) days (ride ∷ []) Never → ⊥
+not_least d = not_never (subst (λ r. IsDeadline (feed 36000) days r Never) (only_contained ride d.ride d.among) d.reached)
 
 -- where the second window ends at 08:10, as the ride does, it is permitted
 just_within : IsPermittedRide (feed 29400) (times 600) days ride

@@ -1,5 +1,5 @@
 -- A small feed without demand-responsive services: two stops and one trip between them on one day.
-use Rattle.std.proofs.Common.{◌≡◌, ◌≢◌, ◌⊎◌, inl, inr, ◌∙◌, ◌++◌, length-append, slice_get, ◌-ℤ◌, ◌*ℤ◌, ◌*◌, ℕ, zero, suc, ◌+◌, ◌<◌, ◌≤◌, ℤ, pos, ◌+ℤ◌, true, false, List, [], ◌∷◌, Some, All, get_or, length, refl, sym, ap, subst, lit≤, lit<, arith}
+use Rattle.std.proofs.Common.{◌≡◌, ◌≢◌, ◌⊎◌, inl, inr, ◌∙◌, ◌++◌, length-append, slice_get, ◌-ℤ◌, ◌*ℤ◌, ◌*◌, ℕ, zero, suc, ◌+◌, ◌<◌, ◌≤◌, ℤ, pos, ◌+ℤ◌, true, false, List, [], ◌∷◌, Some, None, All, get_or, length, refl, sym, ap, subst, lit≤, lit<, arith}
 use Rattle.std.specs.Prelude.{codes}
 use Rattle.std.proofs.lemmas.Bool.{false≢true}
 use Rattle.std.proofs.lemmas.Int.{ints}
@@ -19,14 +19,14 @@ use Rattle.flex_model.specs.declared.trip.Row.{Row}
 use Rattle.flex_model.specs.declared.trip.Spot.TheVariants as spot
 use Rattle.flex_model.specs.declared.trip.Timing.TheVariants as timing
 use Rattle.flex_model.specs.declared.trip.Trip.{Trip}
-use Rattle.flex_model.specs.declared.trip.Way.TheVariants.{Free}
+use Rattle.flex_model.specs.declared.trip.Way.TheVariants.{Free, Book}
 use Rattle.flex_model.specs.Place.{HasBoards}
 use Rattle.flex_model.specs.PlainFeed.{IsPlainFeed, IsPlainRow, IsPlainTrip}
 use Rattle.flex_model.specs.SoundFeed.{DoesNotFall, IsChangeBefore, IsNamed, IsSoundChange, IsSoundFeed, IsSoundGroup, IsSoundNotice, IsSoundRepeat, IsSoundRow, IsSoundTrip, IsSoundZone}
 use Rattle.flex_model.specs.SoundQuery.{IsSoundDayTable, IsSoundQuery}
 use Rattle.flex_model.specs.SoundTimes.{AreSoundTimes, AreSoundSpans, IsInRange, IsOnGlobe}
 use Rattle.flex_model.specs.Times.{IsSpanBefore}
-use Rattle.flex_model.proofs.Examples.Dale.{named, named_one, feed as flex_feed}
+use Rattle.flex_model.proofs.Examples.Dale.{named, named_one, boarding as flex_boarding, feed as flex_feed}
 use Rattle.flex_model.proofs.Found.{All-one, AllPairs-cons, AllPairs-nil}
 
 -- the positions don't matter here
@@ -55,6 +55,13 @@ query transfers horizon = record { id = codes "q1"; origin = place.Stop 0; desti
 
 plain_row : (sequence s time : ℕ) → IsPlainRow (row sequence s time)
 plain_row sequence s time = record { «spot» = tt; timing = tt; pickup = tt; drop_off = tt }
+
+-- a record that names a zone isn't plain, nor is one that is booked
+zone_row : IsPlainRow flex_boarding → ⊥
+zone_row p = p.spot
+
+booked_row : IsPlainRow (record (row 1 0 28800) { pickup = Book None }) → ⊥
+booked_row p = p.pickup
 
 plain_trip : IsPlainTrip trip
 plain_trip = record { not_frequent = refl; rows = All-cons IsPlainRow (row 1 0 28800) (row 2 1 30000 ∷ []) (plain_row 1 0 28800) (All-one IsPlainRow (row 2 1 30000) (plain_row 2 1 30000)) }

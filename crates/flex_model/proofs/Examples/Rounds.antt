@@ -1,8 +1,9 @@
 -- Journeys and labels of two trips with a change, what isn't one of them, and why.
-use Rattle.std.proofs.Common.{◌≡◌, ◌*◌, None, codes, ℕ, zero, suc, ◌<◌, ◌≤◌, pos, ◌+ℤ◌, ◌≤ℤ◌, [], ◌∷◌, Some, Contains, slice_get, refl, sym, ap, subst, inl, lit≤, lit<, arith}
+use Rattle.std.proofs.Common.{◌≡◌, ◌∙◌, List, length, ◌*◌, None, codes, ℕ, zero, suc, ◌<◌, ◌≤◌, pos, ◌+ℤ◌, ◌≤ℤ◌, [], ◌∷◌, Some, Contains, slice_get, refl, sym, ap, subst, inl, inr, lit≤, lit<, arith}
 use Rattle.std.proofs.lemmas.Int.{ints}
 use Rattle.std.proofs.lemmas.List.Elements.{All-nil}
-use Rattle.std.proofs.lemmas.Option.{same_Some}
+use Rattle.std.proofs.lemmas.Option.{none-some, same_Some}
+use Rattle.flex_model.specs.declared.answer.Pair.{Pair}
 use Rattle.flex_model.specs.declared.flaw.JourneyFlaw.TheVariants as journey_flaw
 use Rattle.flex_model.specs.declared.flaw.RideFlaw.{RideFlaw}
 use Rattle.flex_model.specs.declared.flaw.RideFlaw.TheVariants.{NoTrip, NoRow, NoDay, NotActive, Frequent, NotBoarded, NotAlighted, WrongDeparture, NoDirect, WrongArrival}
@@ -13,15 +14,16 @@ use Rattle.flex_model.specs.declared.ride.Ride.{Ride}
 use Rattle.flex_model.specs.Booking.{HasBooking, IsDeadline}
 use Rattle.flex_model.specs.Deadline.{IsNoLater}
 use Rattle.flex_model.specs.Flaw.{IsBetween, IsFirstFlaw, IsFirstJourneyFlaw, IsThrough, Passes, PassesAt, test_number}
-use Rattle.flex_model.specs.Journey.{EndsInTime, IsLabelPlace, IsPartialJourney, IsUsable, Reaches, limit}
-use Rattle.flex_model.specs.LabelTable.{AreApart, AreFound, IsAttained, IsLabelBefore}
+use Rattle.flex_model.specs.Journey.{EndsInTime, IsLabelPlace, IsLast, IsPartialJourney, IsUsable, Reaches, limit}
+use Rattle.flex_model.specs.LabelTable.{AreApart, AreFound, IsAttained, IsHeld, IsLabelBefore, Label, pair_of}
 use Rattle.flex_model.specs.Place.{IsPlaceBefore}
+use Rattle.flex_model.specs.Triple.{CoversPair}
 use Rattle.flex_model.specs.Ride.{Leaves, shift}
 use Rattle.flex_model.specs.ServiceDay.{IsBack}
 use Rattle.flex_model.proofs.DayLaws.{IsMoment_unique}
-use Rattle.flex_model.proofs.Examples.Changes.{by_rule, days, feed, first_free, first_ride, first_trip, first_usable, from_origin, is_free, journey, label, moment, on_foot, on_foot_only, query, rides, row, second_ride, second_usable, stop, times, travels, weekdays}
+use Rattle.flex_model.proofs.Examples.Changes.{by_rule, days, feed, first_free, first_ride, first_trip, first_usable, from_origin, in_rounds, is_free, journey, label, last_label, moment, on_foot, on_foot_only, query, rides, rounds, row, second_ride, second_usable, stop, times, travels, triple, weekdays}
 use Rattle.flex_model.proofs.Flaws.{journeys_flawed, of_records}
-use Rattle.flex_model.proofs.Found.{All-one, AllPairs-cons, AllPairs-nil, only_contained, only_index}
+use Rattle.flex_model.proofs.Found.{All-at, All-one, AllPairs-cons, AllPairs-nil, only_contained, only_index, only_item}
 
 -- stops come before points
 stop_first : IsPlaceBefore (place.Stop 9) (place.Point 0)
@@ -33,6 +35,9 @@ not_itself lt = omega arith
 -- days of the calendar
 three_days : IsBack feed None (pos 20243) 3 (pos 20240)
 three_days = refl
+
+not_four_days : IsBack feed None (pos 20243) 3 (pos 20239) → ⊥
+not_four_days e = let f : pos 20239 +ℤ pos 3 ≡ pos 20243 = e in omega (arith, ints)
 
 -- the first ride alone gets to N
 first_part : (horizon : ℕ) → 20 ≤ horizon → IsPartialJourney feed times days (query horizon) (first_ride ∷ [])
@@ -74,6 +79,28 @@ reaches = record {
     least other Never c d = tt
     least other (At m) c d = absurd (first_free d.0.0 (subst (λ r. HasBooking feed r d.0.0) (only_contained first_ride other c) d.0.1))
 
+-- it gets neither to O, nor to N a second earlier
+not_elsewhere : Reaches feed times days (query 60) (first_ride ∷ []) (place.Stop 2) (record { deadline = Never; arrival = pos 1749025200; walk = 0 }) → ⊥
+not_elsewhere r =
+    let last : r.journey.last ≡ first_ride = same_Some r.journey.last first_ride (sym r.journey.is_last) in
+    let at : place.Stop 1 ≡ place.Stop 2 = sym (ap (λ ride. ride.alight) last) ∙ r.at_place in
+    cc
+
+not_sooner : Reaches feed times days (query 60) (first_ride ∷ []) (place.Stop 1) (record { deadline = Never; arrival = pos 1749025199; walk = 0 }) → ⊥
+not_sooner r =
+    let last : r.journey.last ≡ first_ride = same_Some r.journey.last first_ride (sym r.journey.is_last) in
+    let arrives : r.journey.last.arrives ≡ pos 1749025200 = ap (λ ride. ride.arrives) last in
+    let arrival = r.arrives in
+    omega (arith, ints)
+
+-- no label is attained without a ride
+not_attained : (other : Label) → IsAttained feed times days (query 60) 0 other → ⊥
+not_attained other a = no_last a.0 a.1 a.2.journey.last a.2.journey.is_last
+  where
+    no_last : (rs : List Ride) → length rs ≡ 0 → (last : Ride) → IsLast rs last → ⊥
+    no_last [] e last is = none-some last is
+    no_last (r ∷ rs) e last is = omega arith
+
 found : AreFound feed times days (query 60) 1 (label ∷ [])
 found = record {
   attained = All-one (IsAttained feed times days (query 60) 1) label (first_ride ∷ [], refl, reaches);
@@ -81,9 +108,55 @@ found = record {
   rising = AllPairs-cons IsLabelBefore label [] (All-nil (IsLabelBefore label)) (AllPairs-nil IsLabelBefore);
 }
 
+-- in a round before that a search doesn't find it
+not_found : AreFound feed times days (query 60) 0 (label ∷ []) → ⊥
+not_found f = not_attained label (All-at (IsAttained feed times days (query 60) 0) (label ∷ []) 0 label f.attained refl)
+
+-- a label that arrives sooner and has to be booked is apart from one that needn't be
+abbrev sooner : Label
+sooner = record label { deadline = At (pos 1748970000); arrival = pos 1749024900 }
+
+are_apart : AreApart (sooner ∷ label ∷ [])
+are_apart = record { apart = apart }
+  where
+    sooner_only : (x : Label) (k : ℕ) → slice_get (label ∷ []) k ≡ Some x → CoversPair (pair_of sooner) (pair_of x) → ⊥
+    sooner_only x k e c = let covers = subst (λ l. CoversPair (pair_of sooner) (pair_of l)) (only_item label k x e) c in covers.deadline
+
+    later_only : (x : Label) (k : ℕ) → slice_get (label ∷ []) k ≡ Some x → CoversPair (pair_of x) (pair_of sooner) → ⊥
+    later_only x k e c = let covers = subst (λ l. CoversPair (pair_of l) (pair_of sooner)) (only_item label k x e) c in let le = covers.arrival in omega (arith, ints)
+
+    apart : (i j : ℕ) (a b : Label) → slice_get (sooner ∷ label ∷ []) i ≡ Some a → slice_get (sooner ∷ label ∷ []) j ≡ Some b → a.place ≡ b.place → CoversPair (pair_of a) (pair_of b) → i ≡ j
+    apart zero zero a b e f same covers = refl
+    apart zero (suc j) a b e f same covers = absurd (sooner_only b j f (subst (λ l. CoversPair (pair_of l) (pair_of b)) (same_Some a sooner (sym e)) covers))
+    apart (suc i) zero a b e f same covers = absurd (later_only a i e (subst (λ l. CoversPair (pair_of a) (pair_of l)) (same_Some b sooner (sym f)) covers))
+    apart (suc i) (suc j) a b e f same covers = let first = only_index label i a e in let second = only_index label j b f in omega arith
+
 -- a label and one of its place that arrives later with the same deadline aren't apart
 not_apart : AreApart (label ∷ (record label { arrival = pos 1749025260 }) ∷ []) → ⊥
 not_apart a = let same = a.apart 0 1 label (record label { arrival = pos 1749025260 }) refl refl refl (record { deadline = tt; arrival = omega (arith, ints); walk = lit≤ tt }) in omega (arith, same)
+
+-- nor are they what a search finds
+not_found_together : AreFound feed times days (query 60) 1 (label ∷ (record label { arrival = pos 1749025260 }) ∷ []) → ⊥
+not_found_together f = not_apart f.apart
+
+-- what the second ride leads to is held in round 2, and not in round 1
+abbrev by_second : Pair
+by_second = record { deadline = Never; arrival = pos 1749026400; walk = 0 }
+
+held : IsHeld (triple ∷ []) rounds (place.Stop 3) by_second 2
+held = inl (record { round = 2; label = last_label; in_round = (last_label ∷ [], refl, (0, lit< tt, refl)); early = lit≤ tt; at_place = refl; covers = record { deadline = tt; arrival = omega (arith, ints); walk = lit≤ tt } })
+
+not_held : IsHeld (triple ∷ []) rounds (place.Stop 3) by_second 1 → ⊥
+not_held (inl h) =
+    let early = h.early in
+    elim (in_rounds h.round h.label h.in_round) [
+      | inl is ↦ (let at : place.Stop 1 ≡ place.Stop 3 = sym (ap (λ l. l.place) is.1) ∙ h.at_place in absurd cc)
+      | inr is ↦ (let second = is.0 in absurd (omega arith))
+    ]
+not_held (inr h) =
+    let transfers : h.triple.transfers ≡ 1 = ap (λ t. t.transfers) (only_contained triple h.triple h.is_printed) in
+    let few = h.few in
+    absurd (omega arith)
 
 -- a label may stand at the destination, and at no other point
 at_destination : IsLabelPlace feed (query 60) (place.Point 0)
@@ -93,13 +166,13 @@ at_no_other_point : IsLabelPlace feed (query 60) (place.Point 1) → ⊥
 at_no_other_point e = cc
 
 -- a second too late for its record's time, the first ride has a wrong departure, and no flaw before it
-abbrev late_ride : Ride
+abbrev pub late_ride : Ride
 late_ride = record first_ride { departs = pos 1749024001 }
 
 here : IsBetween feed late_ride first_trip (row 1 0 28800) (row 2 1 30000)
 here = record { of_trip = refl; at_boarding = refl; at_alighting = refl; in_order = lit< tt }
 
-departs_wrongly : IsFirstFlaw feed times days late_ride WrongDeparture
+pub departs_wrongly : IsFirstFlaw feed times days late_ride WrongDeparture
 departs_wrongly = record { fails = fails; first = earlier }
   where
     fails : Passes feed times days late_ride WrongDeparture → ⊥

@@ -1,20 +1,26 @@
 -- Values that are not sound, each by one condition.
-use Rattle.std.proofs.Common.{◌≡◌, ◌^◌, ◌*◌, inl, inr, ◌+◌, ◌≤◌, pos, negsuc, ◌+ℤ◌, true, [], ◌∷◌, None, refl, sym, lit≤, lit<, arith}
+use Rattle.std.proofs.Common.{◌≡◌, IsTrue, Bool, Some, true, false, ◌<◌, subst, ◌^◌, ◌*◌, inl, inr, ◌+◌, ◌≤◌, pos, negsuc, ◌+ℤ◌, [], ◌∷◌, None, refl, sym, lit≤, lit<, arith}
 use Rattle.std.specs.Prelude.{codes}
 use Rattle.std.proofs.lemmas.Bool.{false≢true}
 use Rattle.std.proofs.lemmas.Int.{ints}
+use Rattle.std.proofs.lemmas.List.Elements.{All-cons, All-nil}
+use Rattle.std.proofs.lemmas.Option.{same_Some}
 use Rattle.flex_model.specs.declared.booking.Notice.TheVariants.{Ahead, Days}
 use Rattle.flex_model.specs.declared.booking.SameDay.TheVariants.{Always, Greatest}
 use Rattle.flex_model.specs.declared.change.ChangeKind.TheVariants.{Least, Forbidden}
+use Rattle.flex_model.specs.declared.feed.Feed.{Feed}
 use Rattle.flex_model.specs.declared.place.Place.TheVariants as place
+use Rattle.flex_model.specs.declared.place.Position.{Position}
 use Rattle.flex_model.specs.declared.trip.Spot.TheVariants as spot
 use Rattle.flex_model.specs.declared.trip.Timing.TheVariants.{Times, Window}
-use Rattle.flex_model.specs.SoundFeed.{DoesNotFall, IsChangeBefore, IsSoundFeed, IsSoundKind, IsSoundNotice, IsSoundPolygon, IsSoundRepeat, IsSoundSpot, IsSoundTrip, IsSoundTiming}
+use Rattle.flex_model.specs.declared.trip.Way.TheVariants.{Book}
+use Rattle.flex_model.specs.SoundFeed.{DoesNotFall, IsChangeBefore, IsSoundFeed, IsSoundGroup, IsSoundKind, IsSoundNotice, IsSoundPolygon, IsSoundRepeat, IsSoundSpot, IsSoundTrip, IsSoundTiming, IsSoundWay, IsSoundZone, IsStopInZone}
 use Rattle.flex_model.specs.SoundTimes.{AreIds, AreSoundTimes, IsOnGlobe}
 use Rattle.flex_model.specs.SoundQuery.{IsDayTableOf, IsQueryMoment, IsQueryPlace, IsSoundDayTable, IsSoundQuery}
 use Rattle.flex_model.specs.Times.{IsSpanBefore}
+use Rattle.flex_model.specs.Zone.{is_in_zone}
 use Rattle.flex_model.proofs.Examples.Dale as dale
-use Rattle.flex_model.proofs.Found.{All-at}
+use Rattle.flex_model.proofs.Found.{All-at, All-one, AllPairs-at, AllPairs-cons, AllPairs-nil, only_contained}
 
 -- 180 degrees east are on the globe, and a little more aren't
 easternmost : IsOnGlobe (record { lon = pos (180 * 10 ^ 15); lat = pos 0 })
@@ -29,6 +35,50 @@ too_far_south g = let h = g.lat in omega arith
 -- a polygon has a ring
 no_ring : IsSoundPolygon (record { rings = [] }) → ⊥
 no_ring p = p.exterior refl
+
+-- a zone that leaves out a stop that lies in it
+left_out : IsSoundZone (dale.feed 36000) (record dale.zone { stops = 0 ∷ [] }) → ⊥
+left_out z = let e = only_contained 0 1 ((z.stops 1).1 (dale.stop (codes "N") (dale.at 503 5000), refl, refl, refl)) in omega (arith, e)
+
+-- a stop outside of the zone, and a station in it
+abbrev one_stop : Position → Bool → Feed
+one_stop at boards = record (dale.feed 36000) { stops = (record { id = codes "M"; at = at; boards = boards }) ∷ [] }
+
+in_zone : IsStopInZone (one_stop (dale.at 502 5000) true) dale.zone 0
+in_zone = (record { id = codes "M"; at = dale.at 502 5000; boards = true }, refl, refl, refl)
+
+outside_zone : IsStopInZone (one_stop (dale.at 550 5050) true) dale.zone 0 → ⊥
+outside_zone s =
+    let same = same_Some s.0 (record { id = codes "M"; at = dale.at 550 5050; boards = true }) (sym s.1) in
+    false≢true (subst (λ stop. IsTrue (is_in_zone dale.zone.polygons stop.at)) same s.3)
+
+station_in_zone : IsStopInZone (one_stop (dale.at 502 5000) false) dale.zone 0 → ⊥
+station_in_zone s =
+    let same = same_Some s.0 (record { id = codes "M"; at = dale.at 502 5000; boards = false }) (sym s.1) in
+    false≢true (subst (λ stop. IsTrue stop.boards) same s.2)
+
+-- members of a group are stops of the feed, and rise
+both_stops : IsSoundGroup (dale.feed 36000) (record { id = codes "G"; members = 0 ∷ 1 ∷ [] })
+both_stops = record {
+  in_range = All-cons (λ s. s < 2) 0 (1 ∷ []) (lit< tt) (All-one (λ s. s < 2) 1 (lit< tt));
+  rising = AllPairs-cons (λ a b. a < b) 0 (1 ∷ []) (All-one (λ b. 0 < b) 1 (lit< tt)) (AllPairs-cons (λ a b. a < b) 1 [] (All-nil (λ b. 1 < b)) (AllPairs-nil (λ a b. a < b)));
+}
+
+no_such_member : IsSoundGroup (dale.feed 36000) (record { id = codes "G"; members = 2 ∷ [] }) → ⊥
+no_such_member g = let lt = All-at (λ s. s < 2) (2 ∷ []) 0 2 g.in_range refl in omega arith
+
+member_again : IsSoundGroup (dale.feed 36000) (record { id = codes "G"; members = 1 ∷ 1 ∷ [] }) → ⊥
+member_again g = let lt = AllPairs-at (λ a b. a < b) (1 ∷ 1 ∷ []) 0 1 1 1 g.rising (lit< tt) refl refl in omega arith
+
+-- a booked end names the feed's one rule, or none
+known_rule : IsSoundWay (dale.feed 36000) (Book (Some 0))
+known_rule = lit< tt
+
+no_rule : IsSoundWay (dale.feed 36000) (Book None)
+no_rule = tt
+
+no_such_rule : IsSoundWay (dale.feed 36000) (Book (Some 1)) → ⊥
+no_such_rule h = omega arith
 
 -- a window may be of one moment
 moment_window : IsSoundTiming (spot.Zone 0) (Window 28800 28800)
@@ -97,6 +147,9 @@ same_pair (inl lt) = omega arith
 same_pair (inr both) = let lt = both.1 in omega arith
 
 -- an id stands once, and isn't empty
+two_ids : AreIds (codes "M" ∷ codes "N" ∷ [])
+two_ids = dale.two_stops.ids
+
 twice : AreIds (codes "M" ∷ codes "M" ∷ []) → ⊥
 twice ids = ids.distinct 0 1 [] (lit< tt) (lit< tt) refl
 
