@@ -52,7 +52,8 @@ pub(crate) fn service_ids<'a>(
     requires dates { NameServices dates }
     ensures found { IfOk result (λ ids. (tables : Tables)
         → tables InputFiles.Calendar ≡ records_in calendar.entry
-        → tables InputFiles.CalendarDates ≡ records_in dates.entry → ids ≡ Value.service_ids tables) }
+        → tables InputFiles.CalendarDates ≡ records_in dates.entry
+        → ids ≡ Value.service_ids tables) }
     ensures distinct { IfOk result AreIds }
 {
     let mut ids = Ids::new(alloc);

@@ -14,7 +14,8 @@ use Rattle.feed_meaning.specs.Rules.{Rule, Rules, Values, are_same_pairs, both, 
 -- the time zone differs from that of the first agency
 abbrev pub has_other_timezone : List Values → Values → Bool
 has_other_timezone earlier r =
-    list_any (λ first. not (bytes_eq (first "agency_timezone") (r "agency_timezone"))) (take 1 earlier)
+    list_any (λ first. not (bytes_eq (first "agency_timezone") (r "agency_timezone")))
+        (take 1 earlier)
 
 abbrev pub agency_rules : Rules
 agency_rules earlier r =

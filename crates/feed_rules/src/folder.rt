@@ -47,8 +47,8 @@ impl Model for FeedBytes {
         ∷ b.calendar_dates ∷ b.locations ∷ b.location_groups
         ∷ b.location_group_stops ∷ b.booking_rules ∷ b.transfers ∷ b.frequencies ∷ [] };
 
-    ghost invariant = { λ b. AreCounted b.agency b.stops b.routes b.trips b.stop_times b.calendar b.calendar_dates
-        b.locations b.location_groups
+    ghost invariant = { λ b. AreCounted b.agency b.stops b.routes b.trips b.stop_times b.calendar
+        b.calendar_dates b.locations b.location_groups
         b.location_group_stops b.booking_rules b.transfers b.frequencies };
 }
 

@@ -113,7 +113,8 @@ fn note_stops<'a>(
     ensures repeated { IfOk result (λ is_repeated. is_repeated ≡ has_some_pair bytes_eq
         (texts_of met.old.keys) (both (id from.now) (id to.now))) }
     ensures noted { OnOk result ((q : List ℕ × List ℕ) → has_pair bytes_eq (texts_of met.new.keys) q
-        ≡ (has_pair bytes_eq (texts_of met.old.keys) q || is_pair bytes_eq q (both (id from.now) (id to.now)))) }
+        ≡ (has_pair bytes_eq (texts_of met.old.keys) q
+            || is_pair bytes_eq q (both (id from.now) (id to.now)))) }
 {
     if from.is_empty() || to.is_empty() {
         return Ok(false);

@@ -27,13 +27,15 @@ HasTimedRow feed t r =
     × (slice_get trip.rows r ≡ Some row) × HasTimes row.timing
 
 -- the day is a travel day on which the trip's service runs, and a ride of the trip can start so
-pub record MayRun (feed : Feed) (days : DayTable) (trip : Trip) (day : ℤ) (start : Option ℕ) : Type 0 where
+pub record MayRun
+    (feed : Feed) (days : DayTable) (trip : Trip) (day : ℤ) (start : Option ℕ) : Type 0 where
   pub on_travel_day : IsTravelDay days day
   pub runs : RunsOn feed trip day
   pub starts : StartsRightly trip start
 
 -- one may board at the one record and place, and alight at the other
-pub record MayRide (feed : Feed) (times : Times) (boarding alighting : Row) (board alight : Place) : Type 0 where
+pub record MayRide
+    (feed : Feed) (times : Times) (boarding alighting : Row) (board alight : Place) : Type 0 where
   pub boards : Serves feed times boarding.spot board
   pub picks_up : boarding.pickup ≢ No
   pub alights : Serves feed times alighting.spot alight

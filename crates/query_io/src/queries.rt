@@ -78,7 +78,8 @@ fn read_bytes(
     requires times { AreSoundTimes feed.now times.now }
     requires few { length bytes.now < 2 ^ 32 }
     ensures { IfOk result (HoldsQueries
-        (table_faults InputFiles.Queries (queries_schema feed.now times.now) (table_records bytes.now))
+        (table_faults InputFiles.Queries (queries_schema feed.now times.now)
+            (table_records bytes.now))
         (map (λ e. query_of feed.now times.now e.values) (entries_of (table_records bytes.now)))) }
 {
     match Table::read(alloc, bytes) {
