@@ -1,3 +1,4 @@
 pub mod Fitting
+pub mod LaterRides
 pub mod RideEnds
 pub mod RuleTimes
