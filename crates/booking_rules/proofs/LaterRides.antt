@@ -1,5 +1,5 @@
 -- Closings, openings and deadlines of rides that differ in their moments alone.
-use Rattle.std.proofs.Common.{◌≡◌, ◌⊎◌, ◌↔◌, inl, inr, ℕ, ◌+◌, ◌*◌, ◌≤◌, ℤ, pos, ◌+ℤ◌, ◌-ℤ◌, ◌≤ℤ◌, ◌<ℤ◌, Option, Some, None, refl, sym, ◌∙◌, ap, subst, arith}
+use Rattle.std.proofs.Common.{◌≡◌, inl, inr, ℕ, ◌*◌, ◌≤◌, ℤ, pos, ◌+ℤ◌, ◌-ℤ◌, ◌≤ℤ◌, Option, Some, None, refl, subst, arith}
 use Rattle.std.proofs.lemmas.Int.{by_lt_z, clamps, ints}
 use Rattle.std.specs.Int.{int_min}
 use Rattle.flex_model.specs.declared.booking.Notice.{Notice}
@@ -10,9 +10,9 @@ use Rattle.flex_model.specs.declared.moment.DayTable.{DayTable}
 use Rattle.flex_model.specs.declared.moment.Deadline.{Deadline}
 use Rattle.flex_model.specs.declared.moment.Deadline.TheVariants.{At, Never}
 use Rattle.flex_model.specs.declared.ride.Ride.{Ride}
-use Rattle.flex_model.specs.Booking.{CanBook, Closes, ClosesAt, HasBooking, HasClosing, IsBookable, IsDeadline, IsNoticeOf, OpensBy}
+use Rattle.flex_model.specs.Booking.{CanBook, Closes, ClosesAt, HasBooking, HasClosing, IsBookable, IsDeadline, OpensBy}
 use Rattle.flex_model.specs.Deadline.{lesser}
-use Rattle.flex_model.proofs.Bookings.{ClosesAt_unique, Closes_unique, IsNoticeOf_unique}
+use Rattle.flex_model.proofs.Bookings.{Closes_unique, IsNoticeOf_unique}
 use Rattle.booking_rules.specs.Departures.{later, ride_at}
 
 module _ (feed : Feed) (days : DayTable) (day : ℤ) where

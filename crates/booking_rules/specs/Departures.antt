@@ -1,13 +1,12 @@
 -- Departures of a run, and those of them that count for one who books.
 --
--- The rides of a run differ in their moments alone. A departure of a run is open where it isn't
+-- The rides of a run differ in their moments alone. A departure of the run is open where it isn't
 -- before an earliest moment and its ride can be booked. It has the pair of its ride's deadline and
 -- its arrival. It counts where no different pair of an open departure covers its pair. Of the
 -- departures that count and have the same pair, the earliest is kept and the others aren't.
 --
--- Nothing of it is looked up minute by minute, for two reasons. A ride that can be booked can be
--- booked too where it leaves later. And its deadline rises as its departure does up to a latest
--- deadline, and is constant from there.
+-- Two laws show which these are. A ride that can be booked can be booked too where it leaves later.
+-- And the deadline rises as the departure does, up to a latest one, and is constant from there.
 --
 -- This project's own.
 use Rattle.std.specs.Prelude.{◌≡◌, ℕ, ◌*◌, ◌<◌, ◌≤◌, ℤ, pos, ◌+ℤ◌, ◌≤ℤ◌}
@@ -32,14 +31,9 @@ ride_at ride departs arrives = record ride { departs = departs; arrives = arrive
 abbrev pub pair_of : Deadline → ℤ → Pair
 pair_of deadline arrives = record { deadline = deadline; arrival = arrives; walk = 0 }
 
--- the k-th departure of the run, counted from 0
+-- the departure of the run with this number, counted from 0
 abbrev pub nth_departure : Run → ℕ → ℤ
 nth_departure run k = run.first +ℤ pos (60 * k)
-
--- the deadline that is so many seconds later; never stays never
-abbrev pub later : Deadline → ℕ → Deadline
-later (At moment) seconds = At (moment +ℤ pos seconds)
-later Never seconds = Never
 
 -- each departure of the run is in the range of those of permitted rides
 abbrev pub LeavesInRange : Run → Type 0
@@ -78,6 +72,11 @@ LaterRidesCanBeBooked =
     (feed : Feed) (days : DayTable) (ride : Ride) (departs arrives now : ℤ)
     → ride.departs ≤ℤ departs → IsBookable feed days ride now
     → IsBookable feed days (ride_at ride departs arrives) now
+
+-- the deadline that is so many seconds later; never stays never
+abbrev pub later : Deadline → ℕ → Deadline
+later (At moment) seconds = At (moment +ℤ pos seconds)
+later Never seconds = Never
 
 -- From one departure to another one some seconds later the deadline rises as the departure does, up
 -- to the deadline of the other one, and is constant from there.
