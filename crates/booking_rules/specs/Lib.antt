@@ -1,2 +1,4 @@
+pub mod Departures
 pub mod Ends
+pub mod Narrowing
 pub mod Openings

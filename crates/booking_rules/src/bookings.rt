@@ -54,7 +54,7 @@ fn end_deadline(
 }
 
 // How the ride is boarded, and how it is left.
-fn ways_of(feed: &Feed, ride: &Ride) -> (Way, Way)
+pub(crate) fn ways_of(feed: &Feed, ride: &Ride) -> (Way, Way)
     requires feed { IsSoundFeed feed.now }
     requires rows { HasRows feed.now ride.now }
     ensures ways { AreWays feed.now ride.now result.0 result.1 }
