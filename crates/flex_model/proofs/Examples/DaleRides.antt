@@ -1,29 +1,46 @@
 -- Rides of the small demand-responsive feed at the edges of its windows and bookings, and answers that aren't exact.
-use Rattle.std.proofs.Common.{◌≡◌, ◌∙◌, IsTrue, ◌*◌, ◌<◌, ◌≤◌, pos, ◌+ℤ◌, ◌*ℤ◌, [], ◌∷◌, Some, None, slice_get, refl, sym, ap, subst, lit≤, lit<, arith}
+use Rattle.std.proofs.Common.{◌≡◌, ◌∙◌, IsTrue, ◌*◌, ◌<◌, ◌≤◌, pos, ◌+ℤ◌, ◌*ℤ◌, [], ◌∷◌, Some, None, slice_get, refl, sym, ap, subst, inl, lit≤, lit<, arith}
 use Rattle.std.specs.Prelude.{codes}
 use Rattle.std.proofs.lemmas.Int.{ints}
 use Rattle.flex_model.specs.declared.answer.Triple.{Triple}
 use Rattle.flex_model.specs.declared.moment.Deadline.TheVariants.{Never}
 use Rattle.flex_model.specs.declared.place.Place.TheVariants as place
+use Rattle.flex_model.specs.declared.ride.Arrives.TheVariants.{After}
 use Rattle.flex_model.specs.declared.ride.Ride.{Ride}
 use Rattle.flex_model.specs.declared.times.Times.{Times}
 use Rattle.flex_model.specs.declared.trip.Spot.TheVariants as spot
 use Rattle.flex_model.specs.Answer.{IsExactAnswer, IsParetoBest}
-use Rattle.flex_model.specs.Booking.{IsBookable, IsDeadline}
+use Rattle.flex_model.specs.Booking.{ClosesAt, HasBooking, HasClosing, IsBookable, IsDeadline}
 use Rattle.flex_model.specs.Journey.{Attains, IsLeastDeadline}
 use Rattle.flex_model.specs.Place.{Serves}
 use Rattle.flex_model.specs.Ride.{IsPermittedRide, Leaves}
-use Rattle.flex_model.specs.Run.{IsRunOf}
+use Rattle.flex_model.specs.Run.{IsArrival, IsInRun, IsInRuns, IsRunOf}
 use Rattle.flex_model.specs.Zone.{is_in_zone}
 use Rattle.std.proofs.lemmas.Bool.{false≢true}
-use Rattle.flex_model.proofs.Bookings.{pickup_booking}
-use Rattle.flex_model.proofs.Examples.Dale.{alighting, answer, at, attained, begins_at, bookable, boarding, days, exact, feed, is_booked, is_departure, leg, permitted, query, ride, run, run_permitted, stop, times, travels, trip, weekdays, zone}
+use Rattle.flex_model.proofs.Bookings.{ClosesAt_unique, pickup_booking}
+use Rattle.flex_model.proofs.Examples.Dale.{alighting, answer, at, attained, begins_at, bookable, boarding, closes, days, deadline, exact, feed, is_booked, is_departure, leg, one_rule, permitted, query, ride, run, run_permitted, stop, times, travels, trip, weekdays, zone}
 use Rattle.flex_model.proofs.Found.{index_of, only_contained, only_item}
 use Rattle.std.proofs.lemmas.Option.{none-some, same_Some}
 
 -- it can be booked at noon of the day before
 at_noon : IsBookable (feed 36000) days ride (pos 1748952000)
 at_noon = bookable (pos 1748952000) (omega (arith, ints))
+
+-- it has a booking, which closes at 17:00 of the day before
+has_booking : HasBooking (feed 36000) ride (Some 0)
+has_booking = (trip 36000, boarding, refl, inl (refl, refl))
+
+no_other_rule : HasBooking (feed 36000) ride None → ⊥
+no_other_rule h = let e = one_rule None h in cc
+
+has_closing : HasClosing (feed 36000) days ride (pos 1748970000)
+has_closing = (Some 0, has_booking, closes)
+
+no_sooner_closing : HasClosing (feed 36000) days ride (pos 1748969999) → ⊥
+no_sooner_closing h = let le = deadline.1 (pos 1748969999) h in omega (arith, ints)
+
+closes_no_later : ClosesAt (feed 36000) days (Some 0) (pos 20243) (pos 1749024000) (pos 1748970001) → ⊥
+closes_no_later c = let e = ClosesAt_unique (feed 36000) days (Some 0) (pos 20243) (pos 1749024000) (pos 1748970001) (pos 1748970000) c closes in omega (arith, ints)
 
 -- its deadline is no other
 not_never : IsDeadline (feed 36000) days ride Never → ⊥
@@ -83,6 +100,23 @@ serves_no_place_outside s =
     let position : s.1 ≡ at 550 5050 = s.3.2 ∙ ap (λ p. p.at) point in
     let inside = subst (λ z. IsTrue (is_in_zone z.polygons (at 550 5050))) of_zone (subst (λ p. IsTrue (is_in_zone s.0.polygons p)) position s.4) in
     false≢true inside
+
+-- the run has the ride of each minute, and none in between
+on_the_minute : IsInRun run (pos 1749024060) (pos 1749024660)
+on_the_minute = (1, lit< tt, refl, refl)
+
+half_past : IsInRun run (pos 1749024030) (pos 1749024630) → ⊥
+half_past h = let departs : pos 1749024030 ≡ pos 1749024000 +ℤ pos (60 * h.0) = h.2 in omega (arith, ints)
+
+not_in_none : IsInRuns None (pos 1749024000) (pos 1749024600) → ⊥
+not_in_none h = h
+
+-- a ride of it arrives after ten minutes
+after_ten : IsArrival (After 600) (pos 1749024000) (pos 1749024600)
+after_ten = refl
+
+not_after_nine : IsArrival (After 600) (pos 1749024000) (pos 1749024540) → ⊥
+not_after_nine e = let f : pos 1749024540 ≡ pos 1749024000 +ℤ pos 600 = e in omega (arith, ints)
 
 -- half of the departures aren't the run, nor is none
 half_run : IsRunOf (feed 36600) (times 600) days leg (Some (record run { count = 60 })) → ⊥

@@ -1,5 +1,5 @@
 -- Each test of a ride and of a journey, with one that passes and one that fails.
-use Rattle.std.proofs.Common.{◌≡◌, ◌≢◌, IsTrue, ℕ, zero, suc, ◌<◌, pos, ◌+ℤ◌, ◌≤ℤ◌, List, [], ◌∷◌, Some, slice_get, refl, sym, ap, subst, inl, inr, lit≤, lit<, arith}
+use Rattle.std.proofs.Common.{◌≡◌, ◌∙◌, ◌≢◌, IsTrue, ℕ, zero, suc, ◌<◌, pos, ◌+ℤ◌, ◌≤ℤ◌, List, [], ◌∷◌, Some, slice_get, refl, sym, ap, subst, inl, inr, lit≤, lit<, arith}
 use Rattle.std.proofs.lemmas.Bool.{false≢true}
 use Rattle.std.proofs.lemmas.Int.{ints}
 use Rattle.std.proofs.lemmas.Option.{none-some, same_Some}
@@ -15,17 +15,20 @@ use Rattle.flex_model.specs.declared.times.Times.{Times}
 use Rattle.flex_model.specs.declared.trip.Row.{Row}
 use Rattle.flex_model.specs.declared.trip.Trip.{Trip}
 use Rattle.flex_model.specs.declared.trip.Way.TheVariants.{No}
+use Rattle.flex_model.specs.declared.change.ChangeKind.{ChangeKind}
+use Rattle.flex_model.specs.declared.change.ChangeKind.TheVariants.{Least}
 use Rattle.flex_model.specs.Change.{HasChange}
-use Rattle.flex_model.specs.Flaw.{HasDirectTime, HasWay, IsFirstJourneyFlaw, IsInTime, IsReached, IsReadyAt, Passes, PassesAt, no_way_to}
+use Rattle.flex_model.specs.Journey.{ChangesInTime}
+use Rattle.flex_model.specs.Flaw.{HasDirectTime, HasWay, IsFirstJourneyFlaw, IsInTime, IsReached, IsReadyAt, Passes, PassesAt, IsThrough, no_way_to}
 use Rattle.flex_model.specs.Place.{Serves}
 use Rattle.flex_model.specs.Ride.{Arrives, RunsOn, StartsRightly, shift}
 use Rattle.flex_model.specs.ServiceDay.{is_active}
 use Rattle.flex_model.proofs.DayLaws.{IsMoment_unique}
-use Rattle.flex_model.proofs.Examples.Changes.{days, feed, first_permitted, first_ride, first_trip, first_usable, from_origin, journey, moment, not_from_n, only_access, only_changes, query, rides, row, second_permitted, second_ride, second_usable, times, weekdays}
+use Rattle.flex_model.proofs.Examples.Changes.{by_rule, change, days, feed, first_permitted, first_ride, first_trip, first_usable, from_origin, journey, moment, not_from_n, only_access, only_changes, query, rides, row, second_permitted, second_ride, second_usable, times, weekdays}
 use Rattle.flex_model.proofs.Examples.Dale as dale
 use Rattle.flex_model.proofs.Examples.Rounds.{departs_wrongly, late_ride}
 use Rattle.flex_model.proofs.Flaws.{journeys_flawed, of_records, of_trip, passes}
-use Rattle.flex_model.proofs.Found.{none_contained, only_item}
+use Rattle.flex_model.proofs.Found.{none_contained, only_contained, only_item}
 
 -- a permitted ride passes each test, with times and with windows
 timed_passes : (flaw : RideFlaw) → Passes feed times days first_ride flaw
@@ -51,11 +54,15 @@ same_row on = let lt = on.3.in_order in omega arith
 no_day : Passes feed times days (record first_ride { day = pos 20244 }) NoDay → ⊥
 no_day t = let lt : t.0 < 1 = t.1 in let day : pos 20244 ≡ pos 20243 +ℤ pos t.0 = t.3 in omega (arith, ints)
 
--- the trip doesn't run on Saturdays
+-- the trip runs on Wednesdays and not on Saturdays
+on_wednesday : RunsOn feed first_trip (pos 20243)
+on_wednesday = (weekdays, refl, refl)
+
+not_on_saturday : RunsOn feed first_trip (pos 20246) → ⊥
+not_on_saturday runs = false≢true (subst (λ service. IsTrue (is_active service (pos 20246))) (only_item weekdays 0 runs.0 runs.1) runs.2)
+
 not_active : Passes feed times days (record first_ride { day = pos 20246 }) NotActive → ⊥
-not_active on =
-    let runs = of_trip feed (record first_ride { day = pos 20246 }) (λ trip. RunsOn feed trip (pos 20246)) first_trip refl on in
-    false≢true (subst (λ service. IsTrue (is_active service (pos 20246))) (only_item weekdays 0 runs.0 runs.1) runs.2)
+not_active on = not_on_saturday (of_trip feed (record first_ride { day = pos 20246 }) (λ trip. RunsOn feed trip (pos 20246)) first_trip refl on)
 
 -- frequencies.txt doesn't name the trip, so a ride of it has no start
 frequent : Passes feed times days (record first_ride { start = Some 28800 }) Frequent → ⊥
@@ -168,6 +175,12 @@ reached_second second = record { is_ride = refl; before = record { few = lit≤ 
     each zero ride lt e = subst (PassesAt feed times days (query 60) (first_ride ∷ second ∷ []) 0) (same_Some first_ride ride e) (first_passes (second ∷ []))
     each (suc j) ride lt e = absurd (omega arith)
 
+-- after a ride that isn't permitted none is reached
+not_reached : (second : Ride) → IsReached feed times days (query 60) (late_ride ∷ second ∷ []) 1 second → ⊥
+not_reached second r =
+    let first = r.before.each 0 late_ride (lit< tt) refl in
+    departs_wrongly.fails (passes feed times days late_ride first.permitted WrongDeparture)
+
 -- from N one doesn't get back to M
 no_change : IsFirstJourneyFlaw feed times days (query 60) (first_ride ∷ first_ride ∷ []) (journey_flaw.NoChange 2)
 no_change = (first_ride, record { reached = reached_second first_ride; permitted = first_permitted; bookable = (first_usable 60).bookable }, no_way)
@@ -196,6 +209,27 @@ too_early = (
     gone : IsInTime feed times later_query (first_ride ∷ []) 0 first_ride → ⊥
     gone starts = let le : (pos 1749024001 +ℤ pos starts.0) ≤ℤ pos 1749024000 = starts.2 in omega (arith, ints)
 
+-- where 301 seconds are needed for the change, the second ride is gone
+abbrev slow : Feed
+slow = record feed { changes = (record change { kind = Least 301 }) ∷ [] }
+
+second_in_time : IsInTime feed times (query 60) rides 1 second_ride
+second_in_time = (first_ride, refl, (300, by_rule, omega (arith, ints)))
+
+second_gone : IsInTime slow times (query 60) rides 1 second_ride → ⊥
+second_gone way =
+    let changes = subst (λ (ride : Ride). ChangesInTime slow ride second_ride) (sym (same_Some first_ride way.0 way.1)) way.2 in
+    let seconds = slow_change changes.0 changes.1 in
+    let le : (pos 1749025200 +ℤ pos changes.0) ≤ℤ pos 1749025500 = changes.2 in
+    omega (arith, ints)
+  where
+    least : (kind : ChangeKind) (a b : ℕ) → kind ≡ Least a → kind ≡ Least b → a ≡ b
+    least kind a b e f = let same : Least a ≡ Least b = sym e ∙ f in cc
+
+    slow_change : (seconds : ℕ) → HasChange slow (place.Stop 1) (place.Stop 2) seconds → seconds ≡ 301
+    slow_change seconds (inl h) = let e = only_contained (record change { kind = Least 301 }) (record { from = 1; to = 2; kind = Least seconds }) h in least (Least seconds) seconds 301 refl (ap (λ c. c.kind) e)
+    slow_change seconds (inr h) = let e = h.0 in absurd (omega arith)
+
 -- the first ride alone ends at N, from where there is no way to the destination
 no_egress : IsFirstJourneyFlaw feed times days (query 60) (first_ride ∷ []) journey_flaw.NoEgress
 no_egress = (first_ride, record { is_last = refl; all = record { few = lit≤ tt; each = each } }, not_from_n)
@@ -203,6 +237,10 @@ no_egress = (first_ride, record { is_last = refl; all = record { few = lit≤ tt
     each : (j : ℕ) (ride : Ride) → j < 1 → slice_get (first_ride ∷ []) j ≡ Some ride → PassesAt feed times days (query 60) (first_ride ∷ []) j ride
     each zero ride lt e = subst (PassesAt feed times days (query 60) (first_ride ∷ []) 0) (same_Some first_ride ride e) (first_passes [])
     each (suc j) ride lt e = absurd (omega arith)
+
+-- of both rides the second is the last
+not_through : IsThrough feed times days (query 60) rides first_ride → ⊥
+not_through t = let e = ap (λ (ride : Ride). ride.trip) (same_Some second_ride first_ride t.is_last) in omega (arith, e)
 
 -- to a first ride there may be no access, and to another one no change
 to_first : no_way_to 1 ≡ journey_flaw.NoAccess

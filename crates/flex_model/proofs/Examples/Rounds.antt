@@ -3,6 +3,7 @@ use Rattle.std.proofs.Common.{◌≡◌, ◌∙◌, List, length, ◌*◌, None,
 use Rattle.std.proofs.lemmas.Int.{ints}
 use Rattle.std.proofs.lemmas.List.Elements.{All-nil}
 use Rattle.std.proofs.lemmas.Option.{none-some, same_Some}
+use Rattle.std.specs.declared.cmp.Ordering.TheVariants.{Less, Greater}
 use Rattle.flex_model.specs.declared.answer.Pair.{Pair}
 use Rattle.flex_model.specs.declared.flaw.JourneyFlaw.TheVariants as journey_flaw
 use Rattle.flex_model.specs.declared.flaw.RideFlaw.{RideFlaw}
@@ -14,20 +15,26 @@ use Rattle.flex_model.specs.declared.ride.Ride.{Ride}
 use Rattle.flex_model.specs.Booking.{HasBooking, IsDeadline}
 use Rattle.flex_model.specs.Deadline.{IsNoLater}
 use Rattle.flex_model.specs.Flaw.{IsBetween, IsFirstFlaw, IsFirstJourneyFlaw, IsThrough, Passes, PassesAt, test_number}
-use Rattle.flex_model.specs.Journey.{EndsInTime, IsLabelPlace, IsLast, IsPartialJourney, IsUsable, Reaches, limit}
-use Rattle.flex_model.specs.LabelTable.{AreApart, AreFound, IsAttained, IsHeld, IsLabelBefore, Label, pair_of}
-use Rattle.flex_model.specs.Place.{IsPlaceBefore}
+use Rattle.flex_model.specs.Journey.{EndsInTime, IsItinerary, IsLabelPlace, IsLast, IsPartialJourney, StartsInTime, IsUsable, Reaches, limit}
+use Rattle.flex_model.specs.LabelTable.{AreApart, AreFound, IsAttained, IsHeld, IsInRound, IsLabelBefore, IsOnTheWay, Label, LeadsTo, next_pair, pair_of, triple_of}
+use Rattle.flex_model.specs.Place.{IsPlaceBefore, place_cmp}
 use Rattle.flex_model.specs.Triple.{CoversPair}
 use Rattle.flex_model.specs.Ride.{Leaves, shift}
 use Rattle.flex_model.specs.ServiceDay.{IsBack}
 use Rattle.flex_model.proofs.DayLaws.{IsMoment_unique}
-use Rattle.flex_model.proofs.Examples.Changes.{by_rule, days, feed, first_free, first_ride, first_trip, first_usable, from_origin, in_rounds, is_free, journey, label, last_label, moment, on_foot, on_foot_only, query, rides, rounds, row, second_ride, second_usable, stop, times, travels, triple, weekdays}
+use Rattle.flex_model.proofs.Examples.Changes.{by_rule, days, feed, first_free, first_ride, first_trip, first_usable, from_origin, in_rounds, is_free, journey, label, last_label, moment, on_foot, on_foot_only, only_access, only_changes, query, rides, rounds, row, second_free, second_ride, second_usable, stop, times, travels, triple, weekdays}
 use Rattle.flex_model.proofs.Flaws.{journeys_flawed, of_records}
 use Rattle.flex_model.proofs.Found.{All-at, All-one, AllPairs-cons, AllPairs-nil, only_contained, only_index, only_item}
 
 -- stops come before points
 stop_first : IsPlaceBefore (place.Stop 9) (place.Point 0)
 stop_first = tt
+
+compares_less : place_cmp (place.Stop 9) (place.Point 0) ≡ Less
+compares_less = refl
+
+compares_greater : place_cmp (place.Point 1) (place.Point 0) ≡ Greater
+compares_greater = refl
 
 not_itself : IsPlaceBefore (place.Stop 1) (place.Stop 1) → ⊥
 not_itself lt = omega arith
@@ -38,6 +45,23 @@ three_days = refl
 
 not_four_days : IsBack feed None (pos 20243) 3 (pos 20239) → ⊥
 not_four_days e = let f : pos 20239 +ℤ pos 3 ≡ pos 20243 = e in omega (arith, ints)
+
+-- the second ride is the last, and the first isn't
+second_is_last : IsLast rides second_ride
+second_is_last = refl
+
+first_is_not : IsLast rides first_ride → ⊥
+first_is_not is = let e = ap (λ (ride : Ride). ride.trip) (same_Some second_ride first_ride is) in omega (arith, e)
+
+-- both rides are an itinerary, and the second alone isn't, as there is no way to it
+both_rides : IsItinerary feed times days (query 60) rides
+both_rides = journey.itinerary
+
+second_alone : IsItinerary feed times days (query 60) (second_ride ∷ []) → ⊥
+second_alone i = second_unreached (subst (StartsInTime times (query 60)) (sym (same_Some second_ride i.first i.is_first)) i.starts)
+  where
+    second_unreached : StartsInTime times (query 60) second_ride → ⊥
+    second_unreached starts = let e = only_access (place.Stop 2) starts.0 starts.1 in cc
 
 -- the first ride alone gets to N
 first_part : (horizon : ℕ) → 20 ≤ horizon → IsPartialJourney feed times days (query horizon) (first_ride ∷ [])
@@ -93,7 +117,20 @@ not_sooner r =
     let arrival = r.arrives in
     omega (arith, ints)
 
--- no label is attained without a ride
+-- the second ride arrives 40 minutes after the query's departure
+on_the_way : IsOnTheWay feed times days (query 40) second_ride Never
+on_the_way = record { usable = second_usable 40; booked = second_free; alights = inl tt; arrives = omega (arith, ints) }
+
+past_limit : IsOnTheWay feed times days (query 39) second_ride Never → ⊥
+past_limit way = let le : pos 1749026400 ≤ℤ (pos 1749024000 +ℤ pos (60 * 39)) = way.arrives in omega (arith, ints)
+
+is_limit : limit (query 60) ≡ pos 1749027600
+is_limit = refl
+
+-- the label is attained by one ride, and no label without a ride
+is_attained : IsAttained feed times days (query 60) 1 label
+is_attained = (first_ride ∷ [], refl, reaches)
+
 not_attained : (other : Label) → IsAttained feed times days (query 60) 0 other → ⊥
 not_attained other a = no_last a.0 a.1 a.2.journey.last a.2.journey.is_last
   where
@@ -103,7 +140,7 @@ not_attained other a = no_last a.0 a.1 a.2.journey.last a.2.journey.is_last
 
 found : AreFound feed times days (query 60) 1 (label ∷ [])
 found = record {
-  attained = All-one (IsAttained feed times days (query 60) 1) label (first_ride ∷ [], refl, reaches);
+  attained = All-one (IsAttained feed times days (query 60) 1) label is_attained;
   apart = record { apart = λ i j a b e f same covers. let first = only_index label i a e in let second = only_index label j b f in omega arith };
   rising = AllPairs-cons IsLabelBefore label [] (All-nil (IsLabelBefore label)) (AllPairs-nil IsLabelBefore);
 }
@@ -138,6 +175,31 @@ not_apart a = let same = a.apart 0 1 label (record label { arrival = pos 1749025
 -- nor are they what a search finds
 not_found_together : AreFound feed times days (query 60) 1 (label ∷ (record label { arrival = pos 1749025260 }) ∷ []) → ⊥
 not_found_together f = not_apart f.apart
+
+-- the label is in the first round, and not in the second
+in_first : IsInRound rounds 1 label
+in_first = (label ∷ [], refl, (0, lit< tt, refl))
+
+not_in_second : IsInRound rounds 2 label → ⊥
+not_in_second h = elim (in_rounds 2 label h) [
+  | inl is ↦ (let e = is.0 in omega arith)
+  | inr is ↦ (let e : place.Stop 1 ≡ place.Stop 3 = ap (λ l. l.place) is.1 in cc)
+]
+
+-- from it one changes to the second ride, and not to the first
+leads_to_second : LeadsTo feed (query 60) label second_ride 0
+leads_to_second = (300, by_rule, omega (arith, ints), refl)
+
+not_to_first : (walk : ℕ) → LeadsTo feed (query 60) label first_ride walk → ⊥
+not_to_first walk leads = elim (only_changes (place.Stop 0) leads.0 leads.1) [ inl e ↦ cc | inr e ↦ cc ]
+
+-- what it leads to has the lesser deadline and both walks
+leads_on : next_pair (record label { deadline = At (pos 500); walk = 60 }) second_ride Never 300 ≡ record { deadline = At (pos 500); arrival = pos 1749026400; walk = 360 }
+leads_on = refl
+
+-- and its triple has the seconds to the destination, and a transfer fewer than rides
+ends_as : triple_of (query 60) last_label 1200 2 ≡ triple
+ends_as = refl
 
 -- what the second ride leads to is held in round 2, and not in round 1
 abbrev by_second : Pair

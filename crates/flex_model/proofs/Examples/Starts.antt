@@ -10,7 +10,7 @@ use Rattle.flex_model.specs.declared.trip.Repeat.{Repeat}
 use Rattle.flex_model.specs.declared.trip.Row.{Row}
 use Rattle.flex_model.specs.declared.trip.Timing.TheVariants.{Times, Window}
 use Rattle.flex_model.specs.declared.trip.Trip.{Trip}
-use Rattle.flex_model.specs.Ride.{Arrives, HasTimes, IsPermittedRide, IsStart, Leaves, StartsRightly, shift}
+use Rattle.flex_model.specs.Ride.{Arrives, HasTimes, IsPermittedRide, IsStart, Leaves, StartsRightly, first_departure, shift}
 use Rattle.flex_model.proofs.DayLaws.{IsMoment_unique}
 use Rattle.flex_model.proofs.Examples.Changes.{days, feed, first_ride, first_trip, is_free, moment, row, times, travels, weekdays}
 use Rattle.flex_model.proofs.Found.{All-at, All-one, only_contained, only_item}
@@ -58,11 +58,17 @@ feed_of trip = record feed { trips = trip ∷ [] }
 abbrev ride : Ride
 ride = record first_ride { start = Some 29100; departs = pos 1749024300; arrives = pos 1749025500 }
 
+as_first : first_departure often.rows ≡ 28800
+as_first = refl
+
 later : shift often (Some 29100) ≡ pos 300
 later = refl
 
 timed : All (λ (row : Row). HasTimes row.timing) often.rows
 timed = All-cons (λ (row : Row). HasTimes row.timing) (row 1 0 28800) (row 2 1 30000 ∷ []) tt (All-one (λ (row : Row). HasTimes row.timing) (row 2 1 30000) tt)
+
+no_time : HasTimes (Window 28800 36000) → ⊥
+no_time h = h
 
 permitted : IsPermittedRide (feed_of often) times days ride
 permitted = record {

@@ -1,5 +1,5 @@
 -- Walks of journeys, for a query that asks for walking and for one that doesn't, and triples that differ in the walk.
-use Rattle.std.proofs.Common.{◌≡◌, ℕ, ◌+◌, pos, true, [], ◌∷◌, refl, sym, ◌∙◌, ap, subst, inl, inr, lit≤, lit<, arith}
+use Rattle.std.proofs.Common.{◌≡◌, ℕ, ◌+◌, pos, ◌+ℤ◌, ◌≤ℤ◌, true, [], ◌∷◌, refl, sym, ◌∙◌, ap, subst, inl, inr, lit≤, lit<, arith}
 use Rattle.std.proofs.lemmas.Int.{ints}
 use Rattle.std.proofs.lemmas.List.Elements.{All-cons}
 use Rattle.std.proofs.lemmas.Option.{same_Some}
@@ -106,6 +106,13 @@ at_rest = attained_at_rest
 not_on_foot : Attains feed times days (query 60) rides (record triple { walk = 1500 }) → ⊥
 not_on_foot a = let none = (uncounted_nothing feed times days (query 60) rides refl).0 (record triple { walk = 1500 }) a in omega arith
 
+-- a walk counts where the query asks for it
+counts : counted asking 300 ≡ 300
+counts = refl
+
+counts_nothing : counted (query 60) 300 ≡ 0
+counts_nothing = refl
+
 -- an access on foot, ten minutes from the point to M
 abbrev from_point : Query → Query
 from_point query = record query { origin = place.Point 0; destination = place.Stop 3; depart = pos 1749023400 }
@@ -115,6 +122,15 @@ access = record times { walks = (record { from = place.Point 0; to = place.Stop 
 
 starts_on_foot : StartsOnFoot access (from_point asking) first_ride 600
 starts_on_foot = (600, inr (λ e. cc, tt, (0, lit< tt, refl)), omega (arith, ints), refl)
+
+not_at_once : StartsOnFoot access (record (from_point asking) { depart = pos 1749023401 }) first_ride 600 → ⊥
+not_at_once starts = elim starts.1 [
+  | inl h ↦ (let e = h.0 in cc)
+  | inr h ↦ (
+      let e = ap (λ s. s.seconds) (only_contained (record { from = place.Point 0; to = place.Stop 0; seconds = 600 }) (record { from = place.Point 0; to = place.Stop 0; seconds = starts.0 }) h.2) in
+      let le : (pos 1749023401 +ℤ pos starts.0) ≤ℤ pos 1749024000 = starts.2 in
+      omega (arith, ints))
+]
 
 starts_uncounted : StartsOnFoot access (from_point (query 60)) first_ride 0
 starts_uncounted = (600, inr (λ e. cc, tt, (0, lit< tt, refl)), omega (arith, ints), refl)
@@ -135,6 +151,10 @@ walks_nowhere c = let e = c.3 in omega arith
 -- between two stops all of it is
 between_stops : change_walk (place.Stop 1) (place.Stop 2) 300 ≡ 300
 between_stops = refl
+
+-- and within a stop none
+within_one : change_walk (place.Stop 1) (place.Stop 1) 120 ≡ 0
+within_one = refl
 
 -- two triples that differ in the walk alone
 abbrev walking : ℕ → Triple
