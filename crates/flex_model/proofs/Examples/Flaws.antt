@@ -201,6 +201,13 @@ reached_second second = record { is_ride = refl; before = record { few = lit≤ 
     each zero ride lt e = subst (PassesAt feed times days (query 60) (first_ride ∷ second ∷ []) 0) (same_Some first_ride ride e) (first_passes (second ∷ []))
     each (suc j) ride lt e = absurd (omega arith)
 
+-- after a first ride that passes it is the second that is amiss, and not the first
+second_wrong : IsFirstJourneyFlaw feed times days (query 60) (first_ride ∷ late_ride ∷ []) (journey_flaw.Ride 2 WrongDeparture)
+second_wrong = (late_ride, reached_second late_ride, departs_wrongly)
+
+first_not_wrong : IsFirstJourneyFlaw feed times days (query 60) (first_ride ∷ late_ride ∷ []) (journey_flaw.Ride 1 WrongDeparture) → ⊥
+first_not_wrong f = f.2.fails (subst (λ ride. Passes feed times days ride WrongDeparture) (same_Some first_ride f.0 f.1.is_ride) (timed_passes WrongDeparture))
+
 -- two rides are too many without a transfer, whatever they are
 none_before : PassesBefore feed times days (query 60) rides 0
 none_before = record { few = lit≤ tt; each = λ j other lt e. absurd (omega arith) }
