@@ -108,6 +108,9 @@ on_the_minute = (1, lit< tt, refl, refl)
 half_past : IsInRun run (pos 1749024030) (pos 1749024630) → ⊥
 half_past h = let departs : pos 1749024030 ≡ pos 1749024000 +ℤ pos (60 * h.0) = h.2 in omega (arith, ints)
 
+in_some : IsInRuns (Some run) (pos 1749024060) (pos 1749024660)
+in_some = on_the_minute
+
 not_in_none : IsInRuns None (pos 1749024000) (pos 1749024600) → ⊥
 not_in_none h = h
 

@@ -19,7 +19,7 @@ use Rattle.flex_model.specs.declared.change.ChangeKind.{ChangeKind}
 use Rattle.flex_model.specs.declared.change.ChangeKind.TheVariants.{Least}
 use Rattle.flex_model.specs.Change.{HasChange}
 use Rattle.flex_model.specs.Journey.{ChangesInTime}
-use Rattle.flex_model.specs.Flaw.{HasDirectTime, HasWay, IsFirstJourneyFlaw, IsInTime, IsReached, IsReadyAt, Passes, PassesAt, IsThrough, no_way_to}
+use Rattle.flex_model.specs.Flaw.{IsBetween, IsBooked, PassesBefore, HasDirectTime, HasWay, IsFirstJourneyFlaw, IsInTime, IsReached, IsReadyAt, Passes, PassesAt, IsThrough, no_way_to}
 use Rattle.flex_model.specs.Place.{Serves}
 use Rattle.flex_model.specs.Ride.{Arrives, RunsOn, StartsRightly, shift}
 use Rattle.flex_model.specs.ServiceDay.{is_active}
@@ -29,6 +29,13 @@ use Rattle.flex_model.proofs.Examples.Dale as dale
 use Rattle.flex_model.proofs.Examples.Rounds.{departs_wrongly, late_ride}
 use Rattle.flex_model.proofs.Flaws.{journeys_flawed, of_records, of_trip, passes}
 use Rattle.flex_model.proofs.Found.{none_contained, only_contained, only_item}
+
+-- the first ride is between the two records of its trip, and no ride is between a record and itself
+first_between : IsBetween feed first_ride first_trip (row 1 0 28800) (row 2 1 30000)
+first_between = record { of_trip = refl; at_boarding = refl; at_alighting = refl; in_order = lit< tt }
+
+not_between : IsBetween feed (record first_ride { from_row = 1 }) first_trip (row 2 1 30000) (row 2 1 30000) → ⊥
+not_between b = let lt = b.in_order in omega arith
 
 -- a permitted ride passes each test, with times and with windows
 timed_passes : (flaw : RideFlaw) → Passes feed times days first_ride flaw
@@ -112,10 +119,15 @@ no_drop_off on =
 abbrev no_times : Times
 no_times = record (dale.times 600) { direct = [] }
 
+has_direct : HasDirectTime (dale.times 600) dale.ride dale.boarding.timing (dale.alighting 36000).timing
+has_direct = (600, (0, lit< tt, refl))
+
+has_no_direct : HasDirectTime no_times dale.ride dale.boarding.timing (dale.alighting 36000).timing → ⊥
+has_no_direct direct = none_contained (record { from = dale.ride.board; to = dale.ride.alight; seconds = direct.0 }) direct.1
+
 no_direct : Passes (dale.feed 36000) no_times dale.days dale.ride NoDirect → ⊥
 no_direct on =
-    let direct = of_records (dale.feed 36000) dale.ride (λ trip a b. HasDirectTime no_times dale.ride a.timing b.timing) (dale.trip 36000) dale.boarding (dale.alighting 36000) (record { of_trip = refl; at_boarding = refl; at_alighting = refl; in_order = lit< tt }) on in
-    none_contained (record { from = dale.ride.board; to = dale.ride.alight; seconds = direct.0 }) direct.1
+    has_no_direct (of_records (dale.feed 36000) dale.ride (λ trip a b. HasDirectTime no_times dale.ride a.timing b.timing) (dale.trip 36000) dale.boarding (dale.alighting 36000) (record { of_trip = refl; at_boarding = refl; at_alighting = refl; in_order = lit< tt }) on)
 
 -- a ride that arrives a second after its record's time
 wrong_arrival : Passes feed times days (record first_ride { arrives = pos 1749025201 }) WrongArrival → ⊥
@@ -135,6 +147,10 @@ no_ride = refl
 
 too_many : IsFirstJourneyFlaw feed times days (record (query 60) { transfers = 0 }) rides journey_flaw.TooManyRides
 too_many = lit< tt
+
+-- a ride that leaves wrongly doesn't pass
+late_fails : PassesAt feed times days (query 60) rides 0 late_ride → ⊥
+late_fails p = departs_wrongly.fails (passes feed times days late_ride p.permitted WrongDeparture)
 
 -- a first ride is tried as such
 reached_first : (ride : Ride) → IsReached feed times days (query 60) (ride ∷ []) 0 ride
@@ -167,6 +183,16 @@ no_access = (second_ride, record { reached = reached_first second_ride; permitte
 first_passes : (others : List Ride) → PassesAt feed times days (query 60) (first_ride ∷ others) 0 first_ride
 first_passes others = record { permitted = first_permitted; bookable = (first_usable 60).bookable; in_time = (0, from_origin, omega (arith, ints)) }
 
+first_booked : IsBooked feed times days (query 60) (first_ride ∷ []) 0 first_ride
+first_booked = record { reached = reached_first first_ride; permitted = first_permitted; bookable = (first_usable 60).bookable }
+
+late_not_booked : IsBooked feed times days (query 60) (late_ride ∷ []) 0 late_ride → ⊥
+late_not_booked b = departs_wrongly.fails (passes feed times days late_ride b.permitted WrongDeparture)
+
+-- there is a way to the first ride
+first_way : HasWay feed times (query 60) rides 0 first_ride
+first_way = (0, from_origin)
+
 -- a second ride is tried where the first one passes
 reached_second : (second : Ride) → IsReached feed times days (query 60) (first_ride ∷ second ∷ []) 1 second
 reached_second second = record { is_ride = refl; before = record { few = lit≤ tt; each = each } }
@@ -174,6 +200,20 @@ reached_second second = record { is_ride = refl; before = record { few = lit≤ 
     each : (j : ℕ) (ride : Ride) → j < 1 → slice_get (first_ride ∷ second ∷ []) j ≡ Some ride → PassesAt feed times days (query 60) (first_ride ∷ second ∷ []) j ride
     each zero ride lt e = subst (PassesAt feed times days (query 60) (first_ride ∷ second ∷ []) 0) (same_Some first_ride ride e) (first_passes (second ∷ []))
     each (suc j) ride lt e = absurd (omega arith)
+
+-- after a first ride that passes it is the second that is amiss, and not the first
+second_wrong : IsFirstJourneyFlaw feed times days (query 60) (first_ride ∷ late_ride ∷ []) (journey_flaw.Ride 2 WrongDeparture)
+second_wrong = (late_ride, reached_second late_ride, departs_wrongly)
+
+first_not_wrong : IsFirstJourneyFlaw feed times days (query 60) (first_ride ∷ late_ride ∷ []) (journey_flaw.Ride 1 WrongDeparture) → ⊥
+first_not_wrong f = f.2.fails (subst (λ ride. Passes feed times days ride WrongDeparture) (same_Some first_ride f.0 f.1.is_ride) (timed_passes WrongDeparture))
+
+-- two rides are too many without a transfer, whatever they are
+none_before : PassesBefore feed times days (query 60) rides 0
+none_before = record { few = lit≤ tt; each = λ j other lt e. absurd (omega arith) }
+
+too_many_before : PassesBefore feed times days (record (query 60) { transfers = 0 }) rides 0 → ⊥
+too_many_before p = let le = p.few in omega arith
 
 -- after a ride that isn't permitted none is reached
 not_reached : (second : Ride) → IsReached feed times days (query 60) (late_ride ∷ second ∷ []) 1 second → ⊥
@@ -216,9 +256,12 @@ slow = record feed { changes = (record change { kind = Least 301 }) ∷ [] }
 second_in_time : IsInTime feed times (query 60) rides 1 second_ride
 second_in_time = (first_ride, refl, (300, by_rule, omega (arith, ints)))
 
-second_gone : IsInTime slow times (query 60) rides 1 second_ride → ⊥
-second_gone way =
-    let changes = subst (λ (ride : Ride). ChangesInTime slow ride second_ride) (sym (same_Some first_ride way.0 way.1)) way.2 in
+-- one changes from the first ride to the second in 300 seconds, and not in 301
+changes_in_time : ChangesInTime feed first_ride second_ride
+changes_in_time = (300, by_rule, omega (arith, ints))
+
+change_too_slow : ChangesInTime slow first_ride second_ride → ⊥
+change_too_slow changes =
     let seconds = slow_change changes.0 changes.1 in
     let le : (pos 1749025200 +ℤ pos changes.0) ≤ℤ pos 1749025500 = changes.2 in
     omega (arith, ints)
@@ -229,6 +272,9 @@ second_gone way =
     slow_change : (seconds : ℕ) → HasChange slow (place.Stop 1) (place.Stop 2) seconds → seconds ≡ 301
     slow_change seconds (inl h) = let e = only_contained (record change { kind = Least 301 }) (record { from = 1; to = 2; kind = Least seconds }) h in least (Least seconds) seconds 301 refl (ap (λ c. c.kind) e)
     slow_change seconds (inr h) = let e = h.0 in absurd (omega arith)
+
+second_gone : IsInTime slow times (query 60) rides 1 second_ride → ⊥
+second_gone way = change_too_slow (subst (λ (ride : Ride). ChangesInTime slow ride second_ride) (sym (same_Some first_ride way.0 way.1)) way.2)
 
 -- the first ride alone ends at N, from where there is no way to the destination
 no_egress : IsFirstJourneyFlaw feed times days (query 60) (first_ride ∷ []) journey_flaw.NoEgress

@@ -21,7 +21,7 @@ use Rattle.flex_model.specs.declared.trip.Timing.TheVariants as timing
 use Rattle.flex_model.specs.declared.trip.Trip.{Trip}
 use Rattle.flex_model.specs.declared.trip.Way.TheVariants.{Free, Book}
 use Rattle.flex_model.specs.Place.{HasBoards}
-use Rattle.flex_model.specs.PlainFeed.{IsPlainFeed, IsPlainRow, IsPlainTrip}
+use Rattle.flex_model.specs.PlainFeed.{IsPlainFeed, IsPlainRow, IsPlainTrip, IsUnbooked, NamesStop}
 use Rattle.flex_model.specs.SoundFeed.{DoesNotFall, IsChangeBefore, IsNamed, IsSoundChange, IsSoundFeed, IsSoundGroup, IsSoundNotice, IsSoundRepeat, IsSoundRow, IsSoundTrip, IsSoundZone}
 use Rattle.flex_model.specs.SoundQuery.{IsSoundDayTable, IsSoundQuery}
 use Rattle.flex_model.specs.SoundTimes.{AreSoundTimes, AreSoundSpans, IsInRange, IsOnGlobe}
@@ -52,6 +52,20 @@ times = record { points = []; direct = []; walks = [] }
 
 abbrev pub query : ℕ → ℕ → Query
 query transfers horizon = record { id = codes "q1"; origin = place.Stop 0; destination = place.Stop 1; depart = pos 1749022200; now = pos 1748952000; transfers = transfers; horizon = horizon; walking = false }
+
+-- a stop is named by itself, and not by a group or a zone
+names_stop : NamesStop (spot.Stop 0)
+names_stop = tt
+
+group_is_no_stop : NamesStop (spot.Group 0) → ⊥
+group_is_no_stop h = h
+
+-- a free pickup needs no booking
+is_unbooked : IsUnbooked Free
+is_unbooked = tt
+
+is_booked : IsUnbooked (Book None) → ⊥
+is_booked h = h
 
 plain_row : (sequence s time : ℕ) → IsPlainRow (row sequence s time)
 plain_row sequence s time = record { «spot» = tt; timing = tt; pickup = tt; drop_off = tt }

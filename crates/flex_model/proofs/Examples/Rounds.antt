@@ -16,8 +16,8 @@ use Rattle.flex_model.specs.Booking.{HasBooking, IsDeadline}
 use Rattle.flex_model.specs.Deadline.{IsNoLater}
 use Rattle.flex_model.specs.Flaw.{IsBetween, IsFirstFlaw, IsFirstJourneyFlaw, IsThrough, Passes, PassesAt, test_number}
 use Rattle.flex_model.specs.Journey.{EndsInTime, IsItinerary, IsLabelPlace, IsLast, IsPartialJourney, StartsInTime, IsUsable, Reaches, limit}
-use Rattle.flex_model.specs.LabelTable.{AreApart, AreFound, IsAttained, IsHeld, IsInRound, IsLabelBefore, IsOnTheWay, Label, LeadsTo, next_pair, pair_of, triple_of}
-use Rattle.flex_model.specs.Place.{IsPlaceBefore, place_cmp}
+use Rattle.flex_model.specs.LabelTable.{AreApart, AreFound, IsAttained, IsHeld, IsHeldByLabel, IsHeldByTriple, IsInRound, IsLabelBefore, IsOnTheWay, Label, LeadsTo, next_pair, pair_of, triple_of}
+use Rattle.flex_model.specs.Place.{IsPlaceBefore, IsStop, place_cmp}
 use Rattle.flex_model.specs.Triple.{CoversPair}
 use Rattle.flex_model.specs.Ride.{Leaves, shift}
 use Rattle.flex_model.specs.ServiceDay.{IsBack}
@@ -39,6 +39,13 @@ compares_greater = refl
 not_itself : IsPlaceBefore (place.Stop 1) (place.Stop 1) → ⊥
 not_itself lt = omega arith
 
+-- a point is no stop
+is_stop : IsStop (place.Stop 1)
+is_stop = tt
+
+is_no_stop : IsStop (place.Point 1) → ⊥
+is_no_stop h = h
+
 -- days of the calendar
 three_days : IsBack feed None (pos 20243) 3 (pos 20240)
 three_days = refl
@@ -53,15 +60,19 @@ second_is_last = refl
 first_is_not : IsLast rides first_ride → ⊥
 first_is_not is = let e = ap (λ (ride : Ride). ride.trip) (same_Some second_ride first_ride is) in omega (arith, e)
 
+-- the first ride can be reached from the origin, and the second can't
+first_reached : StartsInTime times (query 60) first_ride
+first_reached = (0, from_origin, omega (arith, ints))
+
+second_unreached : StartsInTime times (query 60) second_ride → ⊥
+second_unreached starts = let e = only_access (place.Stop 2) starts.0 starts.1 in cc
+
 -- both rides are an itinerary, and the second alone isn't, as there is no way to it
 both_rides : IsItinerary feed times days (query 60) rides
 both_rides = journey.itinerary
 
 second_alone : IsItinerary feed times days (query 60) (second_ride ∷ []) → ⊥
 second_alone i = second_unreached (subst (StartsInTime times (query 60)) (sym (same_Some second_ride i.first i.is_first)) i.starts)
-  where
-    second_unreached : StartsInTime times (query 60) second_ride → ⊥
-    second_unreached starts = let e = only_access (place.Stop 2) starts.0 starts.1 in cc
 
 -- the first ride alone gets to N
 first_part : (horizon : ℕ) → 20 ≤ horizon → IsPartialJourney feed times days (query horizon) (first_ride ∷ [])
@@ -88,7 +99,7 @@ too_short p =
     let by : p.last.arrives ≤ℤ (pos 1749024000 +ℤ pos (60 * 19)) = p.arrives in
     omega (arith, ints)
 
--- the label of the first round is attained by it, and is all that a search finds there
+-- at 08:20, without a booking or a walk
 reaches : Reaches feed times days (query 60) (first_ride ∷ []) (place.Stop 1) (record { deadline = Never; arrival = pos 1749025200; walk = 0 })
 unfolding first_part
 reaches = record {
@@ -138,6 +149,7 @@ not_attained other a = no_last a.0 a.1 a.2.journey.last a.2.journey.is_last
     no_last [] e last is = none-some last is
     no_last (r ∷ rs) e last is = omega arith
 
+-- it is what a search finds in the first round
 found : AreFound feed times days (query 60) 1 (label ∷ [])
 found = record {
   attained = All-one (IsAttained feed times days (query 60) 1) label is_attained;
@@ -205,20 +217,33 @@ ends_as = refl
 abbrev by_second : Pair
 by_second = record { deadline = Never; arrival = pos 1749026400; walk = 0 }
 
-held : IsHeld (triple ∷ []) rounds (place.Stop 3) by_second 2
-held = inl (record { round = 2; label = last_label; in_round = (last_label ∷ [], refl, (0, lit< tt, refl)); early = lit≤ tt; at_place = refl; covers = record { deadline = tt; arrival = omega (arith, ints); walk = lit≤ tt } })
+by_last : IsHeldByLabel rounds (place.Stop 3) by_second 2
+by_last = record { round = 2; label = last_label; in_round = (last_label ∷ [], refl, (0, lit< tt, refl)); early = lit≤ tt; at_place = refl; covers = record { deadline = tt; arrival = omega (arith, ints); walk = lit≤ tt } }
 
-not_held : IsHeld (triple ∷ []) rounds (place.Stop 3) by_second 1 → ⊥
-not_held (inl h) =
+by_no_label : IsHeldByLabel rounds (place.Stop 3) by_second 1 → ⊥
+by_no_label h =
     let early = h.early in
     elim (in_rounds h.round h.label h.in_round) [
       | inl is ↦ (let at : place.Stop 1 ≡ place.Stop 3 = sym (ap (λ l. l.place) is.1) ∙ h.at_place in absurd cc)
       | inr is ↦ (let second = is.0 in absurd (omega arith))
     ]
-not_held (inr h) =
+
+-- the printed triple has one transfer and arrives 20 minutes later, so it holds what arrives no sooner, from round 2 on
+by_triple : IsHeldByTriple (triple ∷ []) (record by_second { arrival = pos 1749027600 }) 2
+by_triple = record { triple = triple; is_printed = (0, lit< tt, refl); few = lit< tt; covers = record { deadline = tt; arrival = omega (arith, ints); walk = lit≤ tt } }
+
+by_no_triple : (pair : Pair) → IsHeldByTriple (triple ∷ []) pair 1 → ⊥
+by_no_triple pair h =
     let transfers : h.triple.transfers ≡ 1 = ap (λ t. t.transfers) (only_contained triple h.triple h.is_printed) in
     let few = h.few in
-    absurd (omega arith)
+    omega arith
+
+held : IsHeld (triple ∷ []) rounds (place.Stop 3) by_second 2
+held = inl by_last
+
+not_held : IsHeld (triple ∷ []) rounds (place.Stop 3) by_second 1 → ⊥
+not_held (inl h) = by_no_label h
+not_held (inr h) = by_no_triple by_second h
 
 -- a label may stand at the destination, and at no other point
 at_destination : IsLabelPlace feed (query 60) (place.Point 0)
@@ -260,6 +285,16 @@ departs_wrongly = record { fails = fails; first = earlier }
 not_its_trip : IsFirstFlaw feed times days late_ride NoTrip → ⊥
 not_its_trip f = f.fails (first_trip, refl, tt)
 
+-- within an hour the second ride ends in time, and within 59 minutes it doesn't
+just_ends : EndsInTime times (query 60) second_ride
+just_ends = (1200, on_foot, omega (arith, ints))
+
+does_not_end : EndsInTime times (query 59) second_ride → ⊥
+does_not_end ends =
+    let seconds = on_foot_only ends.0 ends.1 in
+    let by : (pos 1749026400 +ℤ pos ends.0) ≤ℤ limit (query 59) = ends.2 in
+    omega (arith, ints, seconds)
+
 -- within 59 minutes both rides together are too late
 through : (horizon : ℕ) → IsThrough feed times days (query horizon) rides second_ride
 through horizon = record { is_last = refl; all = record { few = lit≤ tt; each = each } }
@@ -274,13 +309,7 @@ through horizon = record { is_last = refl; all = record { few = lit≤ tt; each 
     each (suc (suc j)) ride lt e = absurd (omega arith)
 
 ends_late : IsFirstJourneyFlaw feed times days (query 59) rides journey_flaw.TooLate
-ends_late = (second_ride, 1200, through 59, on_foot, late)
-  where
-    late : EndsInTime times (query 59) second_ride → ⊥
-    late ends =
-        let seconds = on_foot_only ends.0 ends.1 in
-        let by : (pos 1749026400 +ℤ pos ends.0) ≤ℤ limit (query 59) = ends.2 in
-        omega (arith, ints, seconds)
+ends_late = (second_ride, 1200, through 59, on_foot, does_not_end)
 
 -- within an hour they aren't
 ends_in_time : IsFirstJourneyFlaw feed times days (query 60) rides journey_flaw.TooLate → ⊥

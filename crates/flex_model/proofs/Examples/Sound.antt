@@ -1,6 +1,7 @@
 -- Values that are not sound, each by one condition.
-use Rattle.std.proofs.Common.{◌≡◌, ap, IsTrue, Bool, Some, true, false, ◌<◌, subst, ◌^◌, ◌*◌, inl, inr, ◌+◌, ◌≤◌, pos, negsuc, ◌+ℤ◌, [], ◌∷◌, None, refl, sym, lit≤, lit<, arith}
+use Rattle.std.proofs.Common.{◌≡◌, map, ap, IsTrue, Bool, Some, true, false, ◌<◌, subst, ◌^◌, ◌*◌, inl, inr, ◌+◌, ◌≤◌, pos, negsuc, ◌+ℤ◌, [], ◌∷◌, None, refl, sym, lit≤, lit<, arith}
 use Rattle.std.specs.Prelude.{codes}
+use Rattle.std.specs.List.{range_with_len}
 use Rattle.std.proofs.lemmas.Bool.{false≢true}
 use Rattle.std.proofs.lemmas.Int.{ints}
 use Rattle.std.proofs.lemmas.List.Elements.{All-cons, All-nil}
@@ -280,6 +281,10 @@ too_short d = let e = d.count in omega arith
 
 before_1970 : IsSoundDayTable (record dale.days { first = negsuc 0 }) → ⊥
 before_1970 d = let le = d.low in omega (arith, ints)
+
+-- days that begin 26 hours after their midnights in UTC
+too_far_off : IsSoundDayTable (record dale.days { base = map (λ k. pos (86400 * k + 93600)) (range_with_len 18723 1526) }) → ⊥
+too_far_off d = let le : 93600 ≤ 93599 = d.near 0 (pos (86400 * 18723 + 93600)) refl in omega arith
 
 -- the table of the query that departs on 4 June 2025 isn't that of one a day later
 next_day : IsDayTableOf (record dale.query { depart = pos 1749108600 }) dale.days → ⊥
