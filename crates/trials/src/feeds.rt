@@ -1,0 +1,98 @@
+// Feeds of folders.
+
+use crate::samples::{FEED, files_of};
+use feed_load::{GivenRow, Loaded, fill_times, is_plain_feed, load};
+use flex_io::LoadError;
+use flex_model::{Fault, FaultCode, Feed, InputFile, Listed, Spot};
+use std::test::Fail;
+
+fn clean(loaded: Loaded) -> Option<Feed> {
+    match loaded {
+        Loaded::Clean(feed) => Some(feed),
+        _ => None,
+    }
+}
+
+fn faulty(loaded: Loaded) -> Option<Listed<Fault>> {
+    match loaded {
+        Loaded::Faulty(faults) => Some(faults),
+        _ => None,
+    }
+}
+
+#[test]
+fn a_clean_folder_is_loaded(rt: HostRuntime) -> Result<(), Fail> {
+    let mut files = files_of(rt.alloc(), &FEED)?;
+    let feed = clean(load(rt.alloc(), &mut files, "a")?).ok_or("faults")?;
+    assert_eq!(rt; feed.stops.as_slice().len(), 5);
+    assert_eq!(rt; feed.services.as_slice().len(), 1);
+    let [trip] = feed.trips.as_slice() else {
+        return Err("one trip".into());
+    };
+    assert!(rt; trip.id.as_str() == "T");
+    let [_, row] = trip.rows.as_slice() else {
+        return Err("two rows".into());
+    };
+    assert_eq!(rt; row.sequence, 2);
+    assert_eq!(rt; row.spot, Spot::Stop(1));
+    assert!(rt; is_plain_feed(&feed));
+    Ok(())
+}
+
+#[test]
+fn an_empty_folder_lacks_files(rt: HostRuntime) -> Result<(), Fail> {
+    let mut files = files_of(rt.alloc(), &[])?;
+    let faults = faulty(load(rt.alloc(), &mut files, "a")?).ok_or("a feed")?;
+    let first = faults.as_slice().first().copied();
+    let agency = Fault {
+        file: InputFile::Agency,
+        row: 0,
+        code: FaultCode::MissingFile,
+    };
+    assert_eq!(rt; first, Some(agency));
+    Ok(())
+}
+
+// The thirteen files are fetched once each.
+#[test]
+fn a_fetch_that_fails_ends_a_load(rt: HostRuntime) -> Result<(), Fail> {
+    for failing in [1, 5, 13] {
+        let mut files = files_of(rt.alloc(), &FEED)?;
+        files.fail_at(failing)?;
+        let failed = load(rt.alloc(), &mut files, "a").err();
+        assert_eq!(rt; failed, Some(LoadError::ReadFault));
+    }
+    let mut files = files_of(rt.alloc(), &FEED)?;
+    files.fail_at(14)?;
+    assert!(rt; clean(load(rt.alloc(), &mut files, "a")?).is_some());
+    Ok(())
+}
+
+fn row(arrives: Option<u32>, departs: Option<u32>) -> GivenRow {
+    GivenRow {
+        window: false,
+        arrives,
+        departs,
+    }
+}
+
+// Between 08:00:00 and 08:10:01 lie two rows, and the last row lies between no two times.
+#[test]
+fn untimed_rows_share_what_lies_between(rt: HostRuntime) {
+    let mut rows = [
+        row(None, Some(28_800)),
+        row(None, None),
+        row(None, None),
+        row(Some(29_401), None),
+        row(None, None),
+    ];
+    fill_times(&mut rows);
+    let filled = [
+        row(None, Some(28_800)),
+        row(Some(29_000), Some(29_000)),
+        row(Some(29_200), Some(29_200)),
+        row(Some(29_401), None),
+        row(None, None),
+    ];
+    assert!(rt; rows == filled);
+}

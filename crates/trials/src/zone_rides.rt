@@ -1,0 +1,138 @@
+// What is judged of rides and journeys in a zone.
+
+use crate::judged::{DAY_BEFORE, EIGHT, M, N, P, RIDE, arrival, june_days};
+use crate::samples::queries_of;
+use crate::zone_feed::{at, new_feed, new_times};
+use flex_model::{Deadline, JourneyFlaw, Place, Ride, RideFlaw};
+use journey_judge::{judge_journey, judge_ride};
+use std::test::Fail;
+
+// From P at 08:00:00 to M at 08:10:00.
+const TO_M: Ride = Ride {
+    board: P,
+    alight: M,
+    ..RIDE
+};
+
+#[test]
+fn a_ride_in_a_zone_takes_the_direct_time(rt: HostRuntime) -> Result<(), Fail> {
+    let feed = new_feed(rt.alloc(), 36_000)?;
+    let times = new_times(rt.alloc(), &feed, at(500, 5_000), 600)?;
+    let days = june_days(rt.alloc())?;
+    let cases = [
+        (TO_M, Ok(())),
+        (
+            Ride {
+                departs: EIGHT + 6_600,
+                arrives: EIGHT + 7_200,
+                ..TO_M
+            },
+            Ok(()),
+        ),
+        (
+            Ride {
+                departs: EIGHT + 7_200,
+                arrives: EIGHT + 7_800,
+                ..TO_M
+            },
+            Err(RideFlaw::WrongArrival),
+        ),
+        (
+            Ride {
+                board: Place::Stop(7),
+                ..TO_M
+            },
+            Err(RideFlaw::NotBoarded),
+        ),
+        (
+            Ride {
+                board: Place::Point(u32::MAX),
+                ..TO_M
+            },
+            Err(RideFlaw::NotBoarded),
+        ),
+        (
+            Ride {
+                alight: Place::Point(1),
+                ..TO_M
+            },
+            Err(RideFlaw::NotAlighted),
+        ),
+        (
+            Ride {
+                alight: Place::Stop(u32::MAX),
+                ..TO_M
+            },
+            Err(RideFlaw::NotAlighted),
+        ),
+        (
+            Ride {
+                board: M,
+                alight: N,
+                ..TO_M
+            },
+            Err(RideFlaw::NoDirect),
+        ),
+        (
+            Ride {
+                arrives: EIGHT + 601,
+                ..TO_M
+            },
+            Err(RideFlaw::WrongArrival),
+        ),
+    ];
+    for (ride, answer) in cases {
+        assert_eq!(rt; judge_ride(&feed, &times, &days, &ride), answer, "{ride:?}");
+    }
+    let outside = new_times(rt.alloc(), &feed, at(600, 5_000), 600)?;
+    assert_eq!(rt;
+        judge_ride(&feed, &outside, &days, &TO_M),
+        Err(RideFlaw::NotBoarded)
+    );
+    Ok(())
+}
+
+#[test]
+fn a_ride_arrives_in_the_window_of_its_zone(rt: HostRuntime) -> Result<(), Fail> {
+    let feed = new_feed(rt.alloc(), 29_400)?;
+    let days = june_days(rt.alloc())?;
+    let times = new_times(rt.alloc(), &feed, at(500, 5_000), 600)?;
+    assert_eq!(rt; judge_ride(&feed, &times, &days, &TO_M), Ok(()));
+    let slower = new_times(rt.alloc(), &feed, at(500, 5_000), 601)?;
+    let late = Ride {
+        arrives: EIGHT + 601,
+        ..TO_M
+    };
+    assert_eq!(rt;
+        judge_ride(&feed, &slower, &days, &late),
+        Err(RideFlaw::WrongArrival)
+    );
+    Ok(())
+}
+
+#[test]
+fn a_journey_in_a_zone_has_its_deadline(rt: HostRuntime) -> Result<(), Fail> {
+    let feed = new_feed(rt.alloc(), 36_000)?;
+    let times = new_times(rt.alloc(), &feed, at(500, 5_000), 600)?;
+    let days = june_days(rt.alloc())?;
+    let records = "P,M,q1,2025-06-04T07:30:00Z,2025-06-03T12:00:00Z,0,240\n\
+                   P,M,q2,2025-06-04T07:30:00Z,2025-06-03T12:00:00Z,1,240\n";
+    let queries = queries_of(rt.alloc(), &feed, &times, records)?;
+    let [query, changing] = queries.as_slice() else {
+        return Err("two queries".into());
+    };
+    let whole = arrival(Deadline::At(DAY_BEFORE), EIGHT + 600);
+    assert_eq!(rt;
+        judge_journey(&feed, &times, &days, query, &[TO_M]),
+        Ok(whole)
+    );
+    assert_eq!(rt;
+        judge_journey(&feed, &times, &days, query, &[TO_M, TO_M]),
+        Err(JourneyFlaw::TooManyRides)
+    );
+    assert_eq!(rt;
+        judge_journey(&feed, &times, &days, changing, &[TO_M, TO_M]),
+        Err(JourneyFlaw::NoChange(2))
+    );
+    Ok(())
+}
