@@ -70,7 +70,7 @@ fn bookings_close_and_open(rt: HostRuntime) -> Result<(), Fail> {
 }
 
 // Whether the feed has the ride's trip and records.
-fn has_rows(feed: &Feed, ride: &Ride) -> bool
+pub(crate) fn has_rows(feed: &Feed, ride: &Ride) -> bool
     ensures { IsTrue result → HasRows feed.now ride.now }
 {
     let Some(trip) = feed.trips.get(ride.trip as usize) else {
