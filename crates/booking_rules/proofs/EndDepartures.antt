@@ -21,6 +21,7 @@ use Rattle.booking_rules.specs.Ends.{CanBookEnd}
 use Rattle.booking_rules.specs.Narrowing.{last_number, nth_ride}
 use Rattle.booking_rules.specs.Openings.{IsOpening, OpensBefore}
 use Rattle.booking_rules.proofs.LaterRides.{closes_at_moved, closing_between, closing_moved}
+use Rattle.booking_rules.proofs.RideEnds.{same_rule}
 use Rattle.booking_rules.proofs.RuleTimes.{opens_before}
 
 -- what has opened by a moment has opened by a later one
@@ -28,9 +29,6 @@ pub opens_before_later : (opening : Opening) (m n : ℤ) → m ≤ℤ n → Open
 opens_before_later Always m n le h = tt
 opens_before_later (From o) m n le h = omega (arith, ints)
 opens_before_later Never m n le h = h
-
-same_rule : (way : Way) (a b : Option ℕ) → way ≡ Book a → way ≡ Book b → a ≡ b
-same_rule way a b e f = let g : Book a ≡ Book b = sym e ∙ f in cc
 
 module _ (feed : Feed) (days : DayTable) (day : ℤ) where
   -- a booking opens no later for an earlier departure

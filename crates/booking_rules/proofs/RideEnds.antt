@@ -19,7 +19,8 @@ use Rattle.booking_rules.specs.Ends.{AreWays, CanBookEnd, IsEndDeadline}
 use Rattle.booking_rules.specs.Openings.{IsOpening, OpensBefore}
 use Rattle.booking_rules.proofs.RuleTimes.{opens_before}
 
-same_rule : (way : Way) (a b : Option ℕ) → way ≡ Book a → way ≡ Book b → a ≡ b
+-- an end is booked under one rule
+pub same_rule : (way : Way) (a b : Option ℕ) → way ≡ Book a → way ≡ Book b → a ≡ b
 same_rule way a b e f = let g : Book a ≡ Book b = sym e ∙ f in cc
 
 module _ (feed : Feed) (days : DayTable) (ride : Ride) (way : Way) (now : ℤ) (rule : Option ℕ) (is : way ≡ Book rule) where

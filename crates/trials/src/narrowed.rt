@@ -121,7 +121,7 @@ fn a_run_is_narrowed_to_what_counts(rt: HostRuntime) -> Result<(), Fail> {
         assert_eq!(rt;
             narrow(&feed, &days, &ride, &run, now, earliest),
             counts.map(|(first, count)| Run {
-                first: EIGHT + first,
+                first: EIGHT.saturating_add(first),
                 count,
                 arrives: run.arrives,
             }),
