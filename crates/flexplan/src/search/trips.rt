@@ -14,6 +14,11 @@ use flex_model::limits::{TABLE_DAYS, TRAVEL_DAYS};
 use flex_model::{DayTable, Feed, Query, Ride};
 use service_days::is_running;
 
+// The indexes of the first travel day in the table, and of the table's end.
+const FIRST_TRAVEL_DAY: u32 = (TABLE_DAYS - TRAVEL_DAYS) as u32;
+
+const END: u32 = TABLE_DAYS as u32;
+
 // The candidate of the trip that arrives first on the day.
 fn best_of_day(feed: &Feed, days: &DayTable, query: &Query, on: &TripDay) -> Option<Ride>
     requires feed { IsSoundFeed feed.now }
@@ -43,7 +48,7 @@ fn best_of_trip(feed: &Feed, days: &DayTable, query: &Query, trip: u32) -> Optio
         → IsEarliest (IsCandidateOf feed.now times days.now query.entry.now trip) result }
 {
     let mut best = None;
-    for index in (TABLE_DAYS - TRAVEL_DAYS) as u32..TABLE_DAYS as u32 {
+    for index in FIRST_TRAVEL_DAY..END {
         let on = TripDay {
             trip,
             day: days.first + index as i32,
