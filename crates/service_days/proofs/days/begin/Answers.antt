@@ -12,7 +12,7 @@ begins c =
     let base = get_or c.deref.result.now (nat_abs z) (pos 0) in
     let there : BeginsAt c.args.days.now c.args.day base =
     begins_at_base c.args.days.now c.args.day z base c.requires (omega (arith, ints, c.from.ensures, c.from-2.ensures)) (omega (arith, ints, c.if-index-lt0.false))
-    (omega (arith, ints, c.if-index-ge-TABLE_DAYS.false)) (ap (λ bases. get_or bases (nat_abs z) (pos 0)) c.deref.ensures) in
+    (omega (arith, ints, c.if-index.false)) (ap (λ bases. get_or bases (nat_abs z) (pos 0)) c.deref.ensures) in
     let bounds = begin_bounds c.args.days.now c.args.day base c.requires there in
     subst (BeginsAt c.args.days.now c.args.day) (sym (moment_fits base (let high = bounds.0 in omega (arith, ints)) bounds.1)) there
 
