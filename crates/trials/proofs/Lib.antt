@@ -1,0 +1,2 @@
+pub mod PrintedRides
+pub mod ZoneFeed

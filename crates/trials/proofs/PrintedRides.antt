@@ -1,35 +1,29 @@
 -- Rides on the one trip of a feed are printed.
-use Rattle.std.proofs.Common.{◌≡◌, ℤ, pos, ◌+ℤ◌, ◌≤ℤ◌, ◌<◌, Bool, None, Some, true, false, arith, lit<, refl, subst, sym}
+use Rattle.std.proofs.Common.{ℕ, ℤ, pos, ◌<◌, Option, is_some, arith, lit<, subst, sym}
 use Rattle.std.proofs.lemmas.Int.{ints}
+use Rattle.field_text.specs.Texts.{IsPrintableMoment}
 use Rattle.flex_model.specs.declared.feed.Feed.{Feed}
 use Rattle.flex_model.specs.declared.place.Place.TheVariants as place
 use Rattle.flex_model.specs.declared.ride.Ride.{Ride}
-use Rattle.flex_model.specs.declared.times.Times.{Times}
 use Rattle.trials.specs.Printed.{HasOneTrip, IsPrinted}
 
-abbrev pub plain_ride : Ride
-plain_ride = record { trip = 0; day = pos 20243; start = None; from_row = 0; to_row = 1; board = place.Stop 0; alight = place.Stop 1; departs = pos 1749024000; arrives = pos 1749025200 }
-
-abbrev pub later_ride : Ride
-later_ride = record { trip = 0; day = pos 20243; start = Some 29100; from_row = 0; to_row = 1; board = place.Stop 0; alight = place.Stop 1; departs = pos 1749024300; arrives = pos 1749025500 }
-
-pub plain_printed : (feed : Feed) → HasOneTrip false feed → IsPrinted feed plain_ride
-plain_printed feed has times = record {
-  trip = has.trip;
-  of_trip = has.of_trip;
-  id = has.id;
-  day = record { low = omega (arith, ints); high = omega (arith, ints) };
-  from = subst (λ n. 0 < n) (sym has.rows) (lit< tt);
-  to = subst (λ n. 1 < n) (sym has.rows) (lit< tt);
-  board = has.from;
-  alight = has.to;
-  departs = record { low = omega (arith, ints); high = omega (arith, ints) };
-  arrives = record { low = omega (arith, ints); high = omega (arith, ints) };
-  starts = sym has.frequent;
+-- from the first record to the second one on 4 June 2025
+abbrev pub ride_at : Option ℕ → ℤ → ℤ → Ride
+ride_at start departs arrives = record {
+  trip = 0;
+  day = pos 20243;
+  start = start;
+  from_row = 0;
+  to_row = 1;
+  board = place.Stop 0;
+  alight = place.Stop 1;
+  departs = departs;
+  arrives = arrives;
 }
 
-pub later_printed : (feed : Feed) → HasOneTrip true feed → IsPrinted feed later_ride
-later_printed feed has times = record {
+pub is_printed : (feed : Feed) (start : Option ℕ) (departs arrives : ℤ) → HasOneTrip (is_some start) feed
+    → IsPrintableMoment departs → IsPrintableMoment arrives → IsPrinted feed (ride_at start departs arrives)
+is_printed feed start departs arrives has leaves ends times = record {
   trip = has.trip;
   of_trip = has.of_trip;
   id = has.id;
@@ -38,7 +32,7 @@ later_printed feed has times = record {
   to = subst (λ n. 1 < n) (sym has.rows) (lit< tt);
   board = has.from;
   alight = has.to;
-  departs = record { low = omega (arith, ints); high = omega (arith, ints) };
-  arrives = record { low = omega (arith, ints); high = omega (arith, ints) };
+  departs = leaves;
+  arrives = ends;
   starts = sym has.frequent;
 }

@@ -1,10 +1,12 @@
 // What is judged of journeys.
 
+ghost use Rattle.std.specs.Prelude.{◌≤ℤ◌, pos};
+
 use crate::judged::{
     AGENCY, CALENDAR, DAY_AHEAD, DAY_BEFORE, EIGHT, GROUPS, M, MEMBERS, N, O, ONE_TRIP, Q, RIDE,
     ROUTES, STOPS, UTC, arrival, assert_journeys,
 };
-use flex_model::{Deadline, JourneyFlaw, Place, Ride, RideFlaw, Triple};
+use flex_model::{Deadline, JourneyFlaw, Moment, Place, Ride, RideFlaw, Triple};
 use std::alloc::Global;
 use std::process::Abort;
 use std::test::Fail;
@@ -297,6 +299,40 @@ fn a_ride_is_booked_by_a_time_of_the_day_before(rt: HostRuntime) -> Result<(), F
     )
 }
 
+// The ride that leaves so many minutes after 08:00:00.
+const fn later(minutes: i64) -> Ride
+    requires low { pos 0 ≤ℤ minutes }
+    requires high { minutes ≤ℤ pos 120 }
+{
+    Ride {
+        departs: EIGHT + 60 * minutes,
+        arrives: EIGHT + 60 * minutes + 600,
+        ..F1
+    }
+}
+
+// Asserts that the rides of the first four minutes can be booked, each a minute longer than the one before it, the first one
+// up to that moment.
+fn assert_each_minute(
+    rt: &impl Abort,
+    alloc: Global,
+    rule: &'static [u8],
+    asked: &str,
+    closing: Moment,
+) -> Result<(), Fail>
+    requires low { pos 0 ≤ℤ closing }
+    requires high { closing ≤ℤ pos 10000000000 }
+{
+    let until = |seconds: i64| Ok(arrival(Deadline::At(closing + seconds), EIGHT + 600 + seconds));
+    let cases: [(&str, &[Ride], Result<Triple, JourneyFlaw>); 4] = [
+        (asked, &[later(0)], until(0)),
+        (asked, &[later(1)], until(60)),
+        (asked, &[later(2)], until(120)),
+        (asked, &[later(3)], until(180)),
+    ];
+    assert_booked(rt, alloc, rule, NO_DATES, &cases)
+}
+
 #[test]
 fn a_ride_is_booked_some_minutes_ahead(rt: HostRuntime) -> Result<(), Fail> {
     let last = Ride {
@@ -320,19 +356,7 @@ fn a_ride_is_booked_some_minutes_ahead(rt: HostRuntime) -> Result<(), Fail> {
     ];
     assert_booked(&rt, rt.alloc(), rule, NO_DATES, &cases)?;
     let up_to_then = b"booking_rule_id,booking_type\nB,0\n";
-    let third = Ride {
-        departs: EIGHT + 180,
-        arrives: EIGHT + 780,
-        ..F1
-    };
-    let at_departure = Ok(arrival(Deadline::At(EIGHT + 180), EIGHT + 780));
-    assert_booked(
-        &rt,
-        rt.alloc(),
-        up_to_then,
-        NO_DATES,
-        &[(EARLY, &[third], at_departure)],
-    )
+    assert_each_minute(&rt, rt.alloc(), up_to_then, EARLY, EIGHT)
 }
 
 // An opening may come after the query's moment, and not after the closing.
@@ -341,12 +365,68 @@ fn a_booking_opens_before_it_closes(rt: HostRuntime) -> Result<(), Fail> {
     let asked = "M,N,q1,2025-06-04T07:30:00Z,2025-06-04T05:00:00Z,0,240\n";
     let rule =
         b"booking_rule_id,booking_type,prior_notice_duration_min,prior_notice_duration_max\nB,1,30,60\n";
-    let booked = Ok(arrival(Deadline::At(EIGHT - 1_800), EIGHT + 600));
-    assert_booked(&rt, rt.alloc(), rule, NO_DATES, &[(asked, &[F1], booked)])?;
+    assert_each_minute(&rt, rt.alloc(), rule, asked, EIGHT - 1_800)?;
     let rule =
         b"booking_rule_id,booking_type,prior_notice_duration_min,prior_notice_duration_max\nB,1,30,20\n";
     let refused = Err(JourneyFlaw::NotBookable(1));
     assert_booked(&rt, rt.alloc(), rule, NO_DATES, &[(asked, &[F1], refused)])
+}
+
+// It may open at a time of an earlier day, or of the day itself.
+#[test]
+fn a_booking_opens_at_a_time_of_a_day(rt: HostRuntime) -> Result<(), Fail> {
+    let refused = Err(JourneyFlaw::NotBookable(1));
+    let half_an_hour = Ok(arrival(Deadline::At(EIGHT - 1_800), EIGHT + 600));
+    let day_before_at_nine = b"booking_rule_id,booking_type,prior_notice_duration_min,\
+        prior_notice_start_day,prior_notice_start_time\nB,1,30,1,09:00:00\n";
+    let just_then = b"booking_rule_id,booking_type,prior_notice_duration_min,\
+        prior_notice_start_day,prior_notice_start_time\nB,1,30,0,07:30:00\n";
+    let too_late = b"booking_rule_id,booking_type,prior_notice_duration_min,\
+        prior_notice_start_day,prior_notice_start_time\nB,1,30,0,07:30:01\n";
+    let cases: [(&'static [u8], Result<Triple, JourneyFlaw>); 3] = [
+        (day_before_at_nine, half_an_hour),
+        (just_then, half_an_hour),
+        (too_late, refused),
+    ];
+    for (rule, answer) in cases {
+        assert_booked(&rt, rt.alloc(), rule, NO_DATES, &[(EARLY, &[F1], answer)])?;
+    }
+    let by_days = b"booking_rule_id,booking_type,prior_notice_last_day,prior_notice_last_time,\
+        prior_notice_start_day,prior_notice_start_time\nB,2,1,17:00:00,2,09:00:00\n";
+    let day_before = Ok(arrival(Deadline::At(DAY_BEFORE), EIGHT + 600));
+    assert_booked(
+        &rt,
+        rt.alloc(),
+        by_days,
+        NO_DATES,
+        &[(EARLY, &[F1], day_before)],
+    )?;
+    let on_the_day = b"booking_rule_id,booking_type,prior_notice_last_day,prior_notice_last_time,\
+        prior_notice_start_day,prior_notice_start_time\nB,2,0,12:00:00,0,08:01:30\n";
+    let at_departure = Ok(arrival(Deadline::At(EIGHT + 120), EIGHT + 720));
+    let cases: [(&str, &[Ride], Result<Triple, JourneyFlaw>); 2] = [
+        (EARLY, &[later(1)], refused),
+        (EARLY, &[later(2)], at_departure),
+    ];
+    assert_booked(&rt, rt.alloc(), on_the_day, NO_DATES, &cases)
+}
+
+// The pickup is booked without a rule, and the ride arrives with the trip.
+#[test]
+fn a_ride_without_a_rule_is_booked_up_to_its_departure(rt: HostRuntime) -> Result<(), Fail> {
+    let stop_times = (
+        "a/stop_times.txt",
+        b"trip_id,stop_sequence,location_group_id,stop_id,start_pickup_drop_off_window,\
+          end_pickup_drop_off_window,arrival_time,departure_time,pickup_type,drop_off_type\n\
+          F1,1,G,,08:00:00,08:30:00,,,2,1\nF1,2,,N,,,08:20:00,08:20:00,1,0\n"
+            .as_slice(),
+    );
+    let feed = [
+        AGENCY, STOPS, ROUTES, ONE_TRIP, CALENDAR, stop_times, GROUPS, MEMBERS,
+    ];
+    let whole = Ok(arrival(Deadline::At(EIGHT + 600), EIGHT + 1_200));
+    let cases: [(&str, &[Ride], Result<Triple, JourneyFlaw>); 1] = [(EARLY, &[later(10)], whole)];
+    assert_journeys(&rt, rt.alloc(), &feed, &[UTC, DIRECT], &cases)
 }
 
 // Two active days before Monday, 9 June, is Wednesday, since Friday is removed. V runs on 4 June alone.

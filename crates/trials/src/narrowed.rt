@@ -15,19 +15,26 @@ use std::test::Fail;
 
 const TRIPS: (&str, &[u8]) = (
     "a/trips.txt",
-    b"route_id,service_id,trip_id\nR,W,F0\nR,W,F1\nR,W,F2\nR,W,F3\nR,W,F4\nR,W,F5\nR,W,F6\nR,W,F7\n",
+    b"route_id,service_id,trip_id\nR,W,F0\nR,W,F1\nR,W,F2\nR,W,F3\nR,W,F4\nR,W,F5\nR,W,F6\nR,W,F7\nR,W,F8\nR,W,F9\nR,W,F10\n",
 );
 
 // One books by 17:00:00 of the day before (A), up to the departure (B), by 08:01:30 of the day (C), from one hour to half an
-// hour before the departure (D), between half an hour before it and then 20 minutes before it, which is never (E), or from
-// 08:01:30 of the day to noon (F).
+// hour before the departure (D), between half an hour before it and then 20 minutes before it, which is never (E), from
+// 08:01:30 of the day to noon (F), up to half an hour before the departure (G), or by 17:00:00 of a day that is counted back:
+// on V, which has none before 4 June (H), or on W, which doesn't run on Friday, 6 June (I).
 const RULES: (&str, &[u8]) = (
     "a/booking_rules.txt",
-    b"booking_rule_id,booking_type,prior_notice_duration_min,prior_notice_duration_max,prior_notice_last_day,prior_notice_last_time,prior_notice_start_day,prior_notice_start_time\n\
-      A,2,,,1,17:00:00,,\nB,0,,,,,,\nC,2,,,0,08:01:30,,\nD,1,30,60,,,,\nE,1,30,20,,,,\nF,2,,,0,12:00:00,0,08:01:30\n",
+    b"booking_rule_id,booking_type,prior_notice_duration_min,prior_notice_duration_max,prior_notice_last_day,prior_notice_last_time,prior_notice_start_day,prior_notice_start_time,prior_notice_service_id\n\
+      A,2,,,1,17:00:00,,,\nB,0,,,,,,,\nC,2,,,0,08:01:30,,,\nD,1,30,60,,,,,\nE,1,30,20,,,,,\n\
+      F,2,,,0,12:00:00,0,08:01:30,\nG,1,30,,,,,,\nH,2,,,1,17:00:00,,,V\nI,2,,,2,17:00:00,,,W\n",
 );
 
-// Both ends of F0 to F5 are booked under one rule, of F6 the pickup without a rule, and of F7 neither.
+const DATES: (&str, &[u8]) = (
+    "a/calendar_dates.txt",
+    b"service_id,date,exception_type\nW,20250606,2\nV,20250604,1\n",
+);
+
+// Both ends of F0 to F5, and of F8 to F10, are booked under one rule, of F6 the pickup without a rule, and of F7 neither.
 const STOP_TIMES: (&str, &[u8]) = (
     "a/stop_times.txt",
     b"trip_id,stop_sequence,stop_id,location_group_id,arrival_time,departure_time,start_pickup_drop_off_window,end_pickup_drop_off_window,pickup_type,drop_off_type,pickup_booking_rule_id,drop_off_booking_rule_id\n\
@@ -38,11 +45,14 @@ const STOP_TIMES: (&str, &[u8]) = (
       F4,1,,G,,,08:00:00,08:03:00,2,1,E,\nF4,2,,G,,,08:00:00,10:00:00,1,2,,E\n\
       F5,1,,G,,,08:00:00,08:03:00,2,1,F,\nF5,2,,G,,,08:00:00,10:00:00,1,2,,F\n\
       F6,1,,G,,,08:00:00,08:30:00,2,1,,\nF6,2,M,,08:20:00,08:20:00,,,,,,\n\
-      F7,1,M,,08:00:00,08:00:00,,,,,,\nF7,2,N,,08:20:00,08:20:00,,,,,,\n",
+      F7,1,M,,08:00:00,08:00:00,,,,,,\nF7,2,N,,08:20:00,08:20:00,,,,,,\n\
+      F8,1,,G,,,08:00:00,10:00:00,2,1,G,\nF8,2,,G,,,08:00:00,10:00:00,1,2,,G\n\
+      F9,1,,G,,,08:00:00,10:00:00,2,1,H,\nF9,2,,G,,,08:00:00,10:00:00,1,2,,H\n\
+      F10,1,,G,,,08:00:00,10:00:00,2,1,I,\nF10,2,,G,,,08:00:00,10:00:00,1,2,,I\n",
 );
 
-const FEED: [(&str, &[u8]); 9] = [
-    AGENCY, STOPS, ROUTES, TRIPS, CALENDAR, STOP_TIMES, GROUPS, MEMBERS, RULES,
+const FEED: [(&str, &[u8]); 10] = [
+    AGENCY, STOPS, ROUTES, TRIPS, CALENDAR, DATES, STOP_TIMES, GROUPS, MEMBERS, RULES,
 ];
 
 // 2025-06-03T12:00:00Z.
@@ -81,7 +91,7 @@ fn a_run_is_narrowed_to_what_counts(rt: HostRuntime) -> Result<(), Fail> {
     let all = Moment::MIN;
     // The trip, the run, now and the earliest departure, and the first departure, in seconds after 08:00:00, and the
     // number of those that count.
-    let cases: [(u32, Run, Moment, Moment, Option<(i64, u32)>); 22] = [
+    let cases: [(u32, Run, Moment, Moment, Option<(i64, u32)>); 25] = [
         // All have one deadline, so the first counts.
         (0, rides(111), NOON, EIGHT, Some((0, 1))),
         (0, rides(111), NOON, EIGHT + 90, Some((120, 1))),
@@ -112,6 +122,11 @@ fn a_run_is_narrowed_to_what_counts(rt: HostRuntime) -> Result<(), Fail> {
         // There is no deadline.
         (7, rides(4), NOON, EIGHT, Some((0, 1))),
         (7, arrivals(4), NOON, EIGHT + 60, Some((60, 1))),
+        // The last can be booked half an hour ahead.
+        (8, rides(111), EIGHT + 4_800, EIGHT, Some((6_600, 1))),
+        (8, rides(111), EIGHT + 4_801, EIGHT, None),
+        // There is no day so far back.
+        (9, rides(111), NOON, EIGHT, None),
     ];
     for (trip, run, now, earliest, counts) in cases {
         let ride = Ride { trip, ..RIDE };
@@ -126,6 +141,34 @@ fn a_run_is_narrowed_to_what_counts(rt: HostRuntime) -> Result<(), Fail> {
                 arrives: run.arrives,
             }),
             "of {trip} and {run:?} from {earliest} on at {now}"
+        );
+    }
+    Ok(())
+}
+
+// Two active days before Monday, 9 June, is Wednesday, 4 June.
+#[test]
+fn days_are_counted_back_for_a_run(rt: HostRuntime) -> Result<(), Fail> {
+    let feed = read_feed(rt.alloc(), &FEED)?;
+    let days = june_days(rt.alloc())?;
+    let ride = Ride {
+        trip: 10,
+        day: 20_248,
+        ..RIDE
+    };
+    let first = EIGHT + 432_000;
+    let run = Run {
+        first,
+        count: 111,
+        arrives: Arrives::After(600),
+    };
+    if !has_rows(&feed, &ride) || !is_travel_day(&days, ride.day) || !is_in_range(&run) {
+        return Err("no such ride or run".into());
+    }
+    for (now, count) in [(EIGHT + 32_400, Some(1)), (EIGHT + 32_401, None)] {
+        assert_eq!(rt;
+            narrow(&feed, &days, &ride, &run, now, first),
+            count.map(|count| Run { count, ..run })
         );
     }
     Ok(())

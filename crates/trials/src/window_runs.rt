@@ -88,6 +88,10 @@ fn a_run_has_each_minute_from_which_one_arrives_in_the_window(rt: HostRuntime) -
             (20_244, 0, 1, M, N),
             run(EIGHT + 86_400, 111, Arrives::After(600)),
         ),
+        (
+            (20_248, 0, 1, M, N),
+            run(EIGHT + 432_000, 111, Arrives::After(600)),
+        ),
         ((20_246, 0, 1, M, N), None),
         ((20_249, 0, 1, M, N), None),
         ((20_243, 1, 0, M, N), None),
@@ -97,6 +101,11 @@ fn a_run_has_each_minute_from_which_one_arrives_in_the_window(rt: HostRuntime) -
         ((20_243, 0, 1, M, Place::Stop(u32::MAX)), None),
     ];
     assert_runs(&rt, rt.alloc(), windows, TEN_MINUTES, &cases)?;
+    let few = b"trip_id,stop_sequence,location_group_id,start_pickup_drop_off_window,\
+        end_pickup_drop_off_window,pickup_type,drop_off_type\n\
+        F1,1,G,08:00:00,08:03:00,2,1\nF1,2,G,08:00:00,10:00:00,1,2\n";
+    let four = [(LEG, run(EIGHT, 4, Arrives::After(600)))];
+    assert_runs(&rt, rt.alloc(), few, TEN_MINUTES, &four)?;
     let slow = b"from_id,to_id,seconds\nM,N,7200\n";
     assert_runs(
         &rt,
@@ -161,6 +170,17 @@ fn a_run_in_a_zone_begins_at_a_point(rt: HostRuntime) -> Result<(), Fail> {
         let times = new_times(rt.alloc(), &feed, at(500, 5_000), seconds)?;
         assert_eq!(rt;
             flex_run(&feed, &times, &days, 0, 20_243, 0, 1, P, M),
+            found
+        );
+    }
+    let shorter = new_feed(rt.alloc(), 29_400)?;
+    if !has_window_row(&shorter, 0, 0, 1) {
+        return Err("a window".into());
+    }
+    for (seconds, found) in [(600, run(EIGHT, 1, Arrives::After(600))), (601, None)] {
+        let times = new_times(rt.alloc(), &shorter, at(500, 5_000), seconds)?;
+        assert_eq!(rt;
+            flex_run(&shorter, &times, &days, 0, 20_243, 0, 1, P, M),
             found
         );
     }
