@@ -8,6 +8,7 @@ ghost use Rattle.flex_model.specs.Zone as spec;
 ghost use Rattle.zone_test.specs.Served.{IsServed};
 
 use crate::rings::{is_on_ring, is_surrounded};
+use crate::zone_index::ZoneIndex;
 use flex_model::{Listed, NoMemory, Polygon, Position, Ring, Stop};
 use std::alloc::Global;
 
@@ -90,10 +91,11 @@ pub fn zone_stops(
     ensures { IfOk result (λ numbers. AreRising numbers
         × ((s : ℕ) → Contains numbers s ↔ IsServed polygons.now stops.now s)) }
 {
+    let index = ZoneIndex::build(alloc, polygons)?;
     let mut numbers = Listed::new(alloc);
     let stops = stops.as_slice();
     for at in 0..stops.len() {
-        if is_served(polygons, &stops[at]) {
+        if is_served(&index, &stops[at]) {
             numbers.push(at as u32)?;
         }
     }
@@ -101,10 +103,9 @@ pub fn zone_stops(
 }
 
 // Whether the stop can be boarded and lies in the zone of these polygons.
-fn is_served(polygons: &Listed<Polygon>, stop: &Stop) -> bool
-    requires polygons { All IsSoundPolygon polygons.now }
-    requires on_globe { IsOnGlobe stop.now.at }
-    ensures { result ≡ (stop.now.boards && spec.is_in_zone polygons.now stop.now.at) }
+fn is_served(index: &ZoneIndex, stop: &Stop) -> bool
+    requires { IsOnGlobe stop.now.at }
+    ensures { result ≡ (stop.now.boards && spec.is_in_zone index.now stop.now.at) }
 {
-    stop.boards && contains(polygons, stop.at)
+    stop.boards && index.contains(stop.at)
 }
