@@ -18,7 +18,7 @@ use Rattle.flex_model.specs.Run.{IsArrival, IsInRun}
 use Rattle.flex_model.specs.Triple.{CoversPair}
 use Rattle.flex_model.proofs.Bookings.{IsDeadline_unique}
 use Rattle.flex_model.proofs.Orders.{IsNoLater_antisym, IsNoLater_refl, lesser_left, lesser_right}
-use Rattle.booking_rules.specs.Departures.{Counts, IsKept, IsOpen, IsOpenUntil, LeavesInRange, later, nth_departure, pair_of, ride_at}
+use Rattle.booking_rules.specs.Departures.{Counts, IsCoveredBy, IsKept, IsOpen, IsOpenUntil, LeavesInRange, later, nth_departure, pair_of, ride_at}
 use Rattle.booking_rules.specs.Narrowing.{IsNthOpen, RisesFor, kept_of, last_number, nth_ride}
 use Rattle.booking_rules.specs.Openings.{IsInRange}
 use Rattle.booking_rules.proofs.LaterRides.{deadline_between}
@@ -320,3 +320,43 @@ module _ (feed : Feed) (days : DayTable) (ride : Ride) (run : Run) (now earliest
 
   pub kept_in_range : LeavesInRange run → LeavesInRange (kept_of run first minutes run.arrives)
   kept_in_range = in_range_by run.arrives
+
+  -- what is kept covers each open departure
+  covered_at : (how : Arrives) (j : ℕ) → run.arrives ≡ how → IsInRun (kept_of run first minutes how) (leaves j) (arrives_at j)
+      → first + j < run.count → (arrives : ℤ) (deadline : Deadline) → IsNoLater deadline (closes j) → arrives_at j ≤ℤ arrives
+      → IsCoveredBy feed days ride (kept_of run first minutes how) arrives deadline
+  covered_at how j is in_run lt arrives deadline no_earlier no_later_arrival = record {
+    departs = leaves j;
+    then_arrives = arrives_at j;
+    in_run = in_run;
+    until = closes j;
+    closes = deadline_then j (arrives_at j) lt;
+    covers = record { deadline = no_earlier; arrival = no_later_arrival; walk = omega arith };
+  }
+
+  covered_by : (how : Arrives) → run.arrives ≡ how → (departs arrives : ℤ) (deadline : Deadline) → IsOpenUntil feed days ride run now earliest departs arrives deadline
+      → IsCoveredBy feed days ride (kept_of run first minutes how) arrives deadline
+  covered_by (After seconds) is departs arrives deadline h =
+      let t = then_open departs arrives deadline h in
+      let arrives_is = t.arrives_is in
+      let after_j = after seconds is t.j in
+      let after_last = after seconds is minutes in
+      let same : IsNoLater deadline (closes t.j) = subst (λ d. IsNoLater d (closes t.j)) (sym t.deadline_is) (IsNoLater_refl (closes t.j)) in
+      elim (cases_lt minutes t.j) [
+        | inl fewer ↦ covered_at (After seconds) minutes is ((kept_after seconds is (leaves minutes) (arrives_at minutes)).1 (kept_then seconds is minutes within_run (omega arith))) within_run
+            arrives deadline (subst (λ d. IsNoLater d (closes minutes)) (sym t.deadline_is) (no_later t.j)) (omega (arith, ints))
+        | inr no_fewer ↦ covered_at (After seconds) t.j is ((kept_after seconds is (leaves t.j) (arrives_at t.j)).1 (kept_then seconds is t.j t.lt no_fewer)) t.lt
+            arrives deadline same (omega (arith, ints))
+      ]
+  covered_by (arrival.At moment) is departs arrives deadline h =
+      let t = then_open departs arrives deadline h in
+      let arrives_is = t.arrives_is in
+      let at_j = at_moment moment is t.j in
+      let at_last = at_moment moment is minutes in
+      let kept = subst (IsKept feed days ride run now earliest (leaves minutes)) (sym at_last) (kept_latest moment is) in
+      covered_at (arrival.At moment) minutes is ((kept_at moment is (leaves minutes) (arrives_at minutes)).1 kept) within_run
+      arrives deadline (subst (λ d. IsNoLater d (closes minutes)) (sym t.deadline_is) (no_later t.j)) (omega (arith, ints))
+
+  pub kept_covers : (departs arrives : ℤ) (deadline : Deadline) → IsOpenUntil feed days ride run now earliest departs arrives deadline
+      → IsCoveredBy feed days ride (kept_of run first minutes run.arrives) arrives deadline
+  kept_covers = covered_by run.arrives refl

@@ -3,6 +3,7 @@ pub mod Fitting
 pub mod KeptDepartures
 pub mod LaterRides
 pub mod OpenDepartures
+pub mod PermittedDepartures
 pub mod RideEnds
 pub mod RuleTimes
 pub mod RunDepartures

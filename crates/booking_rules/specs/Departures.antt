@@ -15,6 +15,7 @@ use Rattle.flex_model.specs.declared.feed.Feed.{Feed}
 use Rattle.flex_model.specs.declared.moment.DayTable.{DayTable}
 use Rattle.flex_model.specs.declared.moment.Deadline.{Deadline}
 use Rattle.flex_model.specs.declared.moment.Deadline.TheVariants.{At, Never}
+use Rattle.flex_model.specs.declared.ride.Arrives.TheVariants as arrival
 use Rattle.flex_model.specs.declared.ride.Ride.{Ride}
 use Rattle.flex_model.specs.declared.ride.Run.{Run}
 use Rattle.flex_model.specs.Booking.{IsBookable, IsDeadline}
@@ -65,6 +66,20 @@ module _ (feed : Feed) (days : DayTable) (ride : Ride) (run : Run) (now earliest
     pub deadline : Deadline
     pub counts : Counts departs arrives deadline
     pub first : (other : ℤ) → Counts other arrives deadline → departs ≤ℤ other
+
+-- where all rides of the run arrive at one moment, there is one
+abbrev pub HasOneAtMoment : Run → Type 0
+HasOneAtMoment run = (moment : ℤ) → run.arrives ≡ arrival.At moment → run.count ≡ 1
+
+-- The kept run has a departure whose ride can be booked no less late and arrives no later.
+pub record IsCoveredBy (feed : Feed) (days : DayTable) (ride : Ride) (kept : Run)
+    (arrives : ℤ) (deadline : Deadline) : Type 0 where
+  pub departs : ℤ
+  pub then_arrives : ℤ
+  pub in_run : IsInRun kept departs then_arrives
+  pub until : Deadline
+  pub closes : IsDeadline feed days (ride_at ride departs then_arrives) until
+  pub covers : CoversPair (pair_of until then_arrives) (pair_of deadline arrives)
 
 -- A ride that can be booked can be booked too where it leaves later.
 abbrev pub LaterRidesCanBeBooked : Type 0

@@ -1,12 +1,13 @@
 // The departures of a run that count for one who books.
 
 ghost use Rattle.std.specs.Prelude.{◌≡◌, ◌↔◌, ◌<◌, ◌≤◌, ◌+◌, ℕ, ℤ, IfNone, IfSome};
+ghost use Rattle.flex_model.specs.declared.moment.Deadline.{Deadline};
 ghost use Rattle.flex_model.specs.Booking.{IsBookable, IsDeadline};
 ghost use Rattle.flex_model.specs.Run.{IsInRuns};
 ghost use Rattle.flex_model.specs.ServiceDay.{IsTravelDay};
 ghost use Rattle.flex_model.specs.SoundFeed.{IsSoundFeed, IsSoundWay};
 ghost use Rattle.flex_model.specs.SoundQuery.{IsSoundDayTable};
-ghost use Rattle.booking_rules.specs.Departures.{IsKept, IsOpen, LeavesInRange};
+ghost use Rattle.booking_rules.specs.Departures.{HasOneAtMoment, IsCoveredBy, IsKept, IsOpen, IsOpenUntil, LeavesInRange};
 ghost use Rattle.booking_rules.specs.Departures as Departures;
 ghost use Rattle.booking_rules.specs.Ends.{CanBookEnd, HasRows};
 ghost use Rattle.booking_rules.specs.Narrowing.{IsNthOpen, RisesFor, kept_of, last_number};
@@ -195,8 +196,14 @@ pub fn narrow(
         ↔ IsKept feed.now days.now ride.now run.now now earliest departs arrives }
     ensures some { IfSome result (λ kept. 0 < kept.count) }
     ensures arrives { IfSome result (λ kept. kept.arrives ≡ run.now.arrives) }
+    ensures single { IfSome result HasOneAtMoment }
     ensures none { IfNone result ((departs arrives : ℤ)
         → IsOpen feed.now days.now ride.now run.now now earliest departs arrives → ⊥) }
+
+    // What is kept covers each departure that can be booked.
+    ensures covered { IfSome result (λ kept. (departs arrives : ℤ) (deadline : Deadline)
+        → IsOpenUntil feed.now days.now ride.now run.now now earliest departs arrives deadline
+        → IsCoveredBy feed.now days.now ride.now kept arrives deadline) }
 
     // A bound, for the sums of callers.
     ensures departs { IfSome result LeavesInRange }

@@ -1,10 +1,11 @@
 -- The departures that count are those of the run that is given.
 use Rattle.std.proofs.Common.{◌≡◌, ◌↔◌, ◌<◌, ◌≤◌, ℤ, IfNone, w64, to_z, of_z, sym, subst, arith}
 use Rattle.std.proofs.lemmas.Int.{to_z-of_z}
+use Rattle.flex_model.specs.declared.moment.Deadline.{Deadline}
 use Rattle.flex_model.specs.Run.{IsInRun}
-use Rattle.booking_rules.specs.Departures.{IsKept, IsOpen, LeavesInRange}
+use Rattle.booking_rules.specs.Departures.{IsCoveredBy, IsKept, IsOpen, IsOpenUntil, LeavesInRange}
 use Rattle.booking_rules.specs.Narrowing.{kept_of, last_number}
-use Rattle.booking_rules.proofs.KeptDepartures.{kept_are, kept_in_range, none_open, within_run}
+use Rattle.booking_rules.proofs.KeptDepartures.{kept_are, kept_covers, kept_in_range, none_open, within_run}
 use Rattle.booking_rules.proofs.narrowing.narrow.Goals as goal
 use Rattle.booking_rules.proofs.narrowing.narrow.Goals.{After-minutes_of_rise-minutes}
 
@@ -56,3 +57,19 @@ returns-clause-departs c =
     (kept_in_range c.args.feed.now c.args.days.now c.args.ride.now c.args.run.now (to_z w64 (of_z w64 c.args.now)) (to_z w64 (of_z w64 c.args.earliest)) c.in_ok-latest.latest
     c.first_open-first.result c.minutes_of_rise-minutes.result (first_within (goal.at.returns-clause-departs c).After-minutes_of_rise-minutes)
     c.first_open-first.ensures c.in_ok-latest.ensures.last.1 c.minutes_of_rise-minutes.ensures c.requires.departs)
+
+pub returns-clause-covered : goal.returns-clause-covered
+returns-clause-covered c =
+    let feed = c.args.feed.now in
+    let days = c.args.days.now in
+    let ride = c.args.ride.now in
+    let run = c.args.run.now in
+    let now : to_z w64 (of_z w64 c.args.now) ≡ c.args.now = to_z-of_z w64 c.args.now c.ranges.now in
+    let earliest : to_z w64 (of_z w64 c.args.earliest) ≡ c.args.earliest = to_z-of_z w64 c.args.earliest c.ranges.earliest in
+    let narrowed = kept_of run c.first_open-first.result c.minutes_of_rise-minutes.result run.arrives in
+    subst (λ kept. (departs arrives : ℤ) (deadline : Deadline) → IsOpenUntil feed days ride run c.args.now c.args.earliest departs arrives deadline → IsCoveredBy feed days ride kept arrives deadline) (sym c.kept.ensures)
+    (subst (λ n. (departs arrives : ℤ) (deadline : Deadline) → IsOpenUntil feed days ride run n c.args.earliest departs arrives deadline → IsCoveredBy feed days ride narrowed arrives deadline) now
+    (subst (λ e. (departs arrives : ℤ) (deadline : Deadline) → IsOpenUntil feed days ride run (to_z w64 (of_z w64 c.args.now)) e departs arrives deadline → IsCoveredBy feed days ride narrowed arrives deadline) earliest
+    (kept_covers feed days ride run (to_z w64 (of_z w64 c.args.now)) (to_z w64 (of_z w64 c.args.earliest)) c.in_ok-latest.latest
+    c.first_open-first.result c.minutes_of_rise-minutes.result (first_within (goal.at.returns-clause-covered c).After-minutes_of_rise-minutes)
+    c.first_open-first.ensures c.in_ok-latest.ensures.last.1 c.minutes_of_rise-minutes.ensures)))

@@ -1,0 +1,14 @@
+pub mod ActiveDayLists
+pub mod RowRides
+pub mod SingleOffers
+pub mod StartRides
+pub mod StartedRides
+pub mod StopRides
+pub mod WindowOffers
+pub mod BoardingOffers
+pub mod DepartureLists
+pub mod DepartureOrder
+pub mod LegRuns
+pub mod OfferLists
+pub mod PlaceSpans
+pub mod RideLists

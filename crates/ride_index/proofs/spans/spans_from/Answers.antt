@@ -1,0 +1,10 @@
+-- What stands between the two points begins at the place.
+use Rattle.std.proofs.Common.{length, get_or, arith}
+use Rattle.flex_model.proofs.Found.{none_contained}
+use Rattle.ride_index.proofs.PlaceSpans.{none_between, stands_between}
+use Rattle.ride_index.proofs.spans.spans_from.Goals as goal
+
+pub returns : goal.returns
+returns c = λ span.
+    stands_between c.args.spans.now c.args.place c.count_before-start.result c.count_by-end.result
+    c.count_before-start.ensures.bound c.count_by-end.ensures.bound c.count_before-start.ensures.point c.count_by-end.ensures.point span

@@ -1,0 +1,9 @@
+use Rattle.std.specs.Prelude.{◌<ℤ◌, ◌+ℤ◌, pos}
+use Rattle.flex_model.specs.declared.times.Times.{Times}
+use Rattle.ride_index.specs.TimedRides.{IsTimedRide}
+use Rattle.ride_index.proofs.RideLists.{Gained}
+use Rattle.ride_index.proofs.stop_rides.add_timed_rides.Given as goal
+
+abbrev pub invariant-loop-ahead : goal.invariant-loop-ahead
+invariant-loop-ahead l =
+    (times : Times) → Gained (λ ride. IsTimedRide l.feed times l.days l.stop l.earliest l.limit ride × (ride.day <ℤ (l.first +ℤ pos l.ahead))) l.fn.found.items l.found.items

@@ -1,0 +1,7 @@
+pub mod ActiveDays
+pub mod Departures
+pub mod Index
+pub mod Legs
+pub mod OfferedRuns
+pub mod Spans
+pub mod TimedRides

@@ -1,0 +1,30 @@
+//! The rides from a place, found by an index that is built once for a feed.
+#![tactic(auto)]
+
+mod active_days;
+mod alightings;
+mod boardings;
+mod departure;
+mod departures;
+mod index;
+mod legs;
+mod listing;
+mod offered_run;
+mod offers;
+mod rides;
+mod spans;
+mod started;
+mod stop_rides;
+mod times;
+mod wanted;
+mod windows;
+
+pub use active_days::ActiveDays;
+pub use departure::{Departure, DepartureKind};
+pub use departures::DepartureList;
+pub use index::RideIndex;
+pub use offered_run::OfferedRun;
+pub use rides::add_rides;
+pub use started::add_rides_at_starts;
+pub use stop_rides::add_timed_rides;
+pub use wanted::Wanted;
