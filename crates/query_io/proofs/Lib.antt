@@ -4,3 +4,5 @@ mod PrintedRides
 pub mod NamedPlaces
 pub mod QueryMoments
 pub mod QueryRecords
+pub mod EscapedFronts
+pub mod FirstPlaces

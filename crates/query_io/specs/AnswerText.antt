@@ -73,12 +73,16 @@ journey_lines feed times walking answer =
     journey_line walking answer.triple ++ flat_map (ride_line feed times) answer.rides
 
 -- query ID COUNT, and the word walking where the query asks for walking
-abbrev pub query_line : Query → ℕ → List ℕ
-query_line query count =
-    line (codes "query" ∷ escape query.id ∷ decimal count
-    ∷ word_if query.walking (codes "walking"))
+abbrev pub query_line : Bool → List ℕ → ℕ → List ℕ
+query_line walking id count =
+    line (codes "query" ∷ escape id ∷ decimal count ∷ word_if walking (codes "walking"))
+
+-- the line of a query that has this id, and the lines of each journey
+unfoldable pub named_answers_text : Feed → Times → Bool → List ℕ → List Answer → List ℕ
+named_answers_text feed times walking id answers =
+    query_line walking id (length answers) ++ flat_map (journey_lines feed times walking) answers
 
 -- the line of the query, and the lines of each journey
-unfoldable pub answer_text : Feed → Times → Query → List Answer → List ℕ
+abbrev pub answer_text : Feed → Times → Query → List Answer → List ℕ
 answer_text feed times query answers =
-    query_line query (length answers) ++ flat_map (journey_lines feed times query.walking) answers
+    named_answers_text feed times query.walking query.id answers

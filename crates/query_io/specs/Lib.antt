@@ -1,6 +1,7 @@
 pub mod AnswerText
 pub mod Printable
 pub mod PrintableAnswers
+pub mod Lines
 pub mod Word
 pub mod Reads
 pub mod QueryFields

@@ -1,7 +1,8 @@
 // Writing the answers to a query.
 
-ghost use Rattle.std.specs.Prelude.{◌≡◌, ◌≢◌, ◌++◌, [], OnOk, OnErr};
-ghost use Rattle.query_io.specs.AnswerText.{answer_text, journey_line, journey_lines, query_line};
+ghost use Rattle.std.specs.Prelude.{◌≡◌, ◌≢◌, ◌++◌, [], All, OnOk, OnErr};
+ghost use Rattle.query_io.specs.AnswerText.{answer_text, journey_line, journey_lines};
+ghost use Rattle.query_io.specs.AnswerText.{named_answers_text, query_line};
 ghost use Rattle.query_io.specs.Printable.{IsPrintable, IsPrintableAnswer, IsPrintableDeadline};
 ghost use Rattle.field_text.specs.Texts.{IsPrintableMoment};
 
@@ -50,24 +51,51 @@ fn write_journey(
 }
 
 // Appends the line of a query with so many answers.
-fn write_query_line(query: &Query, count: u64, into: &mut Text) -> Result<(), NoMemory>
-    requires { query.now.id ≢ [] }
-    ensures ok { OnOk result (into.new ≡ into.old ++ query_line query.entry.now count) }
+fn write_query_line(walking: bool, id: &str, count: u64, into: &mut Text) -> Result<(), NoMemory>
+    requires { id.now ≢ [] }
+    ensures ok { OnOk result (into.new ≡ into.old ++ query_line walking id.now count) }
     ensures err { OnErr result (into.new ≡ into.old) }
 {
-    let words = [Word::Id(query.id.as_str()), Word::Number(count)];
-    let walking = word_if(query.walking, Word::Plain("walking"));
+    let words = [Word::Id(id), Word::Number(count)];
+    let walking = word_if(walking, Word::Plain("walking"));
     write_line("query", &words, walking, into)
 }
 
-/// Appends the text of the answers to a query: the line `query ID COUNT`, and for each answer the
-/// line `journey DEADLINE ARRIVAL TRANSFERS` and the lines of its rides, `ride TRIP DATE FROM TO
-/// PLACE PLACE DEPARTS ARRIVES`. Ids are escaped, a deadline is a moment or `never`, and FROM and
-/// TO are values of `stop_sequence`. For a query that asks for walking the first line ends with
-/// the word `walking`, and that of a journey with its walk in seconds. The line of a ride whose
-/// trip `frequencies.txt` names ends with its start, in seconds of the service day. What is
-/// printed exists and has an id, moments are of the years 1980 to 2209 and days of the years 0001
-/// to 9999, as in each exact answer to a sound query. Where memory runs out, the text is as it was.
+/// Appends the text of answers under the id of a query: the line `query ID COUNT`, and for each
+/// answer the line `journey DEADLINE ARRIVAL TRANSFERS` and the lines of its rides, `ride TRIP
+/// DATE FROM TO PLACE PLACE DEPARTS ARRIVES`. Ids are escaped, a deadline is a moment or `never`,
+/// and FROM and TO are values of `stop_sequence`. For a query that asks for walking the first line
+/// ends with the word `walking`, and that of a journey with its walk in seconds. The line of a
+/// ride whose trip `frequencies.txt` names ends with its start, in seconds of the service day.
+/// What is printed exists and has an id, moments are of the years 1980 to 2209 and days of the
+/// years 0001 to 9999. Where memory runs out, the text is as it was.
+pub fn write_named_answers(
+    feed: &Feed,
+    times: &Times,
+    walking: bool,
+    id: &str,
+    answers: &[Answer],
+    into: &mut Text,
+) -> Result<(), NoMemory>
+    requires id { id.now ≢ [] }
+    requires each { All (IsPrintableAnswer feed.now times.now walking) answers.now }
+    ensures ok { OnOk result (into.new ≡ into.old
+        ++ named_answers_text feed.now times.now walking id.now answers.now) }
+    ensures err { OnErr result (into.new ≡ into.old) }
+{
+    let old_len = into.as_str().len();
+    write_query_line(walking, id, answers.len() as u64, into)?;
+    for answer in answers {
+        if write_journey(feed, times, walking, answer, into).is_err() {
+            into.cut(old_len);
+            return Err(NoMemory);
+        }
+    }
+    Ok(())
+}
+
+/// Appends the text of the answers to a query, as `write_named_answers` does under its id. Each
+/// exact answer to a sound query has such a text. Where memory runs out, the text is as it was.
 pub fn write_answers(
     feed: &Feed,
     times: &Times,
@@ -80,14 +108,12 @@ pub fn write_answers(
         (into.new ≡ into.old ++ answer_text feed.now times.now query.entry.now answers.now) }
     ensures err { OnErr result (into.new ≡ into.old) }
 {
-    let old_len = into.as_str().len();
-    let answers = answers.as_slice();
-    write_query_line(query, answers.len() as u64, into)?;
-    for answer in answers {
-        if write_journey(feed, times, query.walking, answer, into).is_err() {
-            into.cut(old_len);
-            return Err(NoMemory);
-        }
-    }
-    Ok(())
+    write_named_answers(
+        feed,
+        times,
+        query.walking,
+        query.id.as_str(),
+        answers.as_slice(),
+        into,
+    )
 }

@@ -10,8 +10,8 @@ ghost use Rattle.query_io.specs.Word.{IsPrintableWord, word_text};
 use crate::word::{Word, write_line};
 use flex_model::{Feed, NoMemory, Place, Ride, Text, Times, Trip};
 
-// The id of a stop or a point.
-fn place_id<'a>(feed: &'a Feed, times: &'a Times, place: Place) -> &'a str
+/// The id of a stop or a point.
+pub fn place_id<'a>(feed: &'a Feed, times: &'a Times, place: Place) -> &'a str
     requires { IsPrintablePlace feed.now times.now place }
     ensures text { place_text feed.now times.now place ≡ escape result.now }
     ensures given { result.now ≢ [] }

@@ -11,17 +11,20 @@ ghost use Rattle.query_io.specs.Word.{IsPrintableWord, spaced, word_text};
 use field_text::{escape_id, write_date, write_moment, write_number};
 use flex_model::{Deadline, Moment, NoMemory, Text};
 
-// A word of a printed line after its first one.
+/// A word of a printed line after its first one.
 #[derive(Clone, Copy)]
-pub(crate) enum Word<'a> {
-    // an id, which is escaped
+pub enum Word<'a> {
+    /// An id, which is escaped.
     Id(&'a str),
-    // a text as it stands
+    /// A text as it stands.
     Plain(&'a str),
-    // a day, in days since 1970-01-01
+    /// A day, in days since 1970-01-01, printed as YYYYMMDD.
     Day(i32),
+    /// A moment, in seconds since 1970-01-01T00:00:00Z, printed as YYYY-MM-DDTHH:MM:SSZ.
     At(Moment),
+    /// A moment, or `never`.
     Until(Deadline),
+    /// A number in decimal digits.
     Number(u64),
 }
 
@@ -84,8 +87,8 @@ fn write_words(words: &[Word<'_>], into: &mut Text) -> Result<(), NoMemory>
     Ok(())
 }
 
-// A word, where it is wanted.
-pub(crate) fn word_if<'a>(wanted: bool, word: Word<'a>) -> Option<Word<'a>>
+/// A word, where it is wanted.
+pub fn word_if<'a>(wanted: bool, word: Word<'a>) -> Option<Word<'a>>
     requires { IsPrintableWord word }
     ensures printable { IfSome result IsPrintableWord }
     ensures text { map word_text (option_to_list result)
@@ -106,8 +109,10 @@ fn write_last(word: Option<Word<'_>>, into: &mut Text) -> Result<(), NoMemory>
     }
 }
 
-// Appends a line: what it tells, its further words, and a last one that not every line has.
-pub(crate) fn write_line(
+/// Appends a line: what it tells, its further words, and a last one that not every line has. Words
+/// are parted by one space, and a line feed ends the line. Where memory runs out, the text is as it
+/// was.
+pub fn write_line(
     kind: &str,
     words: &[Word<'_>],
     last: Option<Word<'_>>,

@@ -1,0 +1,5 @@
+use Rattle.std.proofs.Common.{◌^◌, ◌<◌, All, take}
+use Rattle.bound_cert.proofs.held.look_at_trip_rows.Given as goal
+
+abbrev pub invariant-loop-i : goal.invariant-loop-i
+invariant-loop-i l = All (λ trip. All (λ row. row.sequence < 2 ^ 32) trip.rows) (take l.i l.trips)

@@ -1,0 +1,10 @@
+use Rattle.std.proofs.Common.{◌≡◌, ℕ, ◌+◌, ◌-◌}
+use Rattle.bound_cert.specs.Reading.{answer_at, each_from}
+use Rattle.bound_cert.proofs.ReaderLoops.{with_front}
+use Rattle.bound_cert.proofs.read.read_answers.Given as goal
+
+-- what was read, and what is still read, are all that is read
+abbrev pub invariant-loop : goal.invariant-loop
+invariant-loop l =
+    let reader = λ (k : ℕ). answer_at l.known.feed.now l.known.times.now l.walking in
+    with_front l.answers (each_from reader (l.counter + 1) (l.count - l.counter) l.rest) ≡ each_from reader 1 l.count l.bytes

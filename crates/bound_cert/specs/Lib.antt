@@ -1,0 +1,9 @@
+pub mod CertText
+pub mod PrintableCert
+pub mod HeldCert
+pub mod Syntax
+pub mod LineWords
+pub mod Reading
+pub mod Given
+pub mod Known
+pub mod Laws
