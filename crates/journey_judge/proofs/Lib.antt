@@ -1,4 +1,3 @@
-pub mod Departures
 pub mod DirectTimes
 pub mod FlawOrder
 pub mod JourneyFlaws

@@ -8,6 +8,8 @@ mod bags;
 #[cfg(test)]
 mod bookings;
 #[cfg(test)]
+mod certs;
+#[cfg(test)]
 mod changes;
 #[cfg(test)]
 mod days;

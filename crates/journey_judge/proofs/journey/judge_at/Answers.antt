@@ -6,7 +6,7 @@ use Rattle.std.proofs.lemmas.Option.{none-some, same_Some, slice_get-get_or}
 use Rattle.flex_model.specs.Booking.{IsBookable}
 use Rattle.flex_model.specs.Flaw.{IsFirstJourneyFlaw}
 use Rattle.flex_model.specs.Ride.{IsPermittedRide}
-use Rattle.journey_judge.proofs.Departures.{departs_in_range}
+use Rattle.booking_rules.proofs.PermittedDepartures.{departs_in_range}
 use Rattle.journey_judge.proofs.JourneyTests.{booking_flaw, in_time, no_ride, not_in_time, time_flaw, walk_of_way, way_flaw}
 use Rattle.journey_judge.proofs.ShortWalks.{way_short}
 use Rattle.journey_judge.proofs.journey.judge_at.Goals as goal
