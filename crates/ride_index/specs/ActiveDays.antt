@@ -19,4 +19,5 @@ AreActiveDays feed days table =
 
 -- whether the service is active on each of so many days from the first on
 unfoldable pub active_flags : Service → ℤ → ℕ → List Bool
-active_flags service first count = map (λ k. is_active service (first +ℤ pos k)) (range_with_len 0 count)
+active_flags service first count =
+    map (λ k. is_active service (first +ℤ pos k)) (range_with_len 0 count)

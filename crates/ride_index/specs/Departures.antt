@@ -49,7 +49,8 @@ pub record IsBoardedAt (kind : DepartureKind) (row : Row) (named departs : ℕ) 
   pub picks_up : row.pickup ≢ No
 
 -- the departure is one of these records of the trip with this number
-pub record IsAmong (kind : DepartureKind) (rows : List Row) (number : ℕ) (departure : Departure) : Type 0 where
+pub record IsAmong (kind : DepartureKind) (rows : List Row) (number : ℕ)
+    (departure : Departure) : Type 0 where
   pub of_trip : departure.trip ≡ number
   pub row : Row
   pub at_row : slice_get rows departure.row ≡ Some row

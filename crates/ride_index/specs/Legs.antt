@@ -111,7 +111,8 @@ pub record BoardsWith (departures : List Departure) (named : ℕ) (ride : Ride) 
 -- the ride boards with a departure of the list
 abbrev pub BoardsWithAny : List Departure → Ride → Type 0
 BoardsWithAny departures ride =
-    (departure : Departure) × Contains departures departure × BoardsAt departure.trip departure.row ride
+    (departure : Departure) × Contains departures departure
+    × BoardsAt departure.trip departure.row ride
 
 -- the leg from the departure to this record, to no other place yet
 abbrev pub leg_from : Wanted → Departure → ℕ → Ride

@@ -50,7 +50,8 @@ pub record AreOffersOf (P : Ride → Deadline → Type 0) (runs : List OfferedRu
 
 -- Offers of the rides with the property were added to the list.
 abbrev pub GainsOffersOf : (Ride → Deadline → Type 0) → List OfferedRun → List OfferedRun → Type 0
-GainsOffersOf P before after = (added : List OfferedRun) × (after ≡ before ++ added) × AreOffersOf P added
+GainsOffersOf P before after =
+    (added : List OfferedRun) × (after ≡ before ++ added) × AreOffersOf P added
 
 -- all that is given is sound
 pub record IsSoundWanted (wanted : Wanted) : Type 0 where

@@ -58,7 +58,8 @@ left_at boarded to_row stop arrives = record boarded {
 
 -- The same ride, which alights at the record with this number. Times of the trip count from the moment
 -- zero.
-pub record AlightsAt (row : Row) (boarded : Ride) (zero : ℤ) (to_row : ℕ) (ride : Ride) : Type 0 where
+pub record AlightsAt (row : Row) (boarded : Ride) (zero : ℤ) (to_row : ℕ)
+    (ride : Ride) : Type 0 where
   pub stop : ℕ
   pub arrives : ℕ
   pub reached : IsReachedAt row stop arrives
@@ -66,7 +67,8 @@ pub record AlightsAt (row : Row) (boarded : Ride) (zero : ℤ) (to_row : ℕ) (r
   pub is : ride ≡ left_at boarded to_row stop (zero +ℤ pos arrives)
 
 -- The same ride, which alights at a later record with times by the limit.
-pub record IsAlighting (rows : List Row) (boarded : Ride) (zero limit : ℤ) (ride : Ride) : Type 0 where
+pub record IsAlighting (rows : List Row) (boarded : Ride) (zero limit : ℤ)
+    (ride : Ride) : Type 0 where
   pub row : Row
   pub at_row : slice_get rows ride.to_row ≡ Some row
   pub later : boarded.from_row < ride.to_row

@@ -49,7 +49,8 @@ fn add_offers_between(
     into: &mut Vec<OfferedRun>,
 ) -> Result<(), NoMemory>
     requires wanted { IsSoundWanted wanted.now }
-    requires boarding { HasRecord wanted.now.feed.now departure.now.trip departure.now.row boarding.now }
+    requires boarding { HasRecord wanted.now.feed.now departure.now.trip departure.now.row
+        boarding.now }
     requires alighting { HasRecord wanted.now.feed.now departure.now.trip to_row alighting.now }
     ensures { OnOk result (GainsOffersOf (λ ride deadline. IsWindowRide wanted.now ride deadline
         × BoardsAt departure.now.trip departure.now.row ride × (ride.to_row ≡ to_row))
