@@ -8,6 +8,7 @@ use Rattle.flex_model.specs.declared.place.Place.{Place}
 use Rattle.flex_model.specs.declared.trip.Row.{Row}
 use Rattle.flex_model.specs.declared.trip.Spot.{Spot}
 use Rattle.flex_model.specs.declared.trip.Trip.{Trip}
+use Rattle.fixed_trips.specs.Timed.{HasTimedRow}
 use Rattle.flex_trips.specs.Windows.{HasWindowRow}
 use Rattle.flex_model.specs.declared.ride.Arrives.{Arrives}
 use Rattle.flex_model.specs.declared.ride.Arrives.TheVariants.{After, At}
@@ -133,3 +134,14 @@ abbrev pub AreAtRecords : Feed → List Departure → Type 0
 AreAtRecords feed departures =
     (departure : Departure) → Contains departures departure
     → (row : Row) × HasRecord feed departure.trip departure.row row
+
+-- the record at which the ride boards names this
+abbrev pub BoardsFrom : Feed → Spot → Ride → Type 0
+BoardsFrom feed at ride = HasSpot feed ride.trip ride.from_row at
+
+-- The ride is wanted and has this deadline, and both of its records have times.
+abbrev pub IsTimedOffer : Wanted → Ride → Deadline → Type 0
+IsTimedOffer wanted ride deadline =
+    IsWantedRide wanted ride deadline
+    × HasTimedRow wanted.feed.now ride.trip ride.from_row
+    × HasTimedRow wanted.feed.now ride.trip ride.to_row

@@ -1,4 +1,5 @@
 pub mod ActiveDays
+pub mod Boardings
 pub mod Departures
 pub mod Index
 pub mod Legs

@@ -1,0 +1,166 @@
+// The offers from a place.
+
+ghost use Rattle.std.specs.Prelude.{◌<◌, ℕ, OnOk, length};
+ghost use Rattle.flex_model.specs.declared.trip.Spot.TheVariants as spot;
+ghost use Rattle.ride_index.specs.Index.{IsIndexOf};
+ghost use Rattle.ride_index.specs.Legs.{BoardsFrom, IsTimedOffer, IsWindowRide};
+ghost use Rattle.ride_index.specs.OfferedRuns.{AreOfferedFrom, GainsOffersOf, IsSoundWanted};
+
+use crate::boardings::add_offers_at;
+use crate::index::RideIndex;
+use crate::offered_run::OfferedRun;
+use crate::offers::add_offers_of_rides;
+use crate::stop_rides::add_timed_rides;
+use crate::wanted::Wanted;
+use flex_model::{NoMemory, Place, Spot};
+use std::alloc::Global;
+use zone_test::serves;
+
+// Adds the offers of rides between records with times.
+fn add_timed_offers(
+    alloc: Global,
+    index: &RideIndex,
+    wanted: &Wanted<'_>,
+    into: &mut Vec<OfferedRun>,
+) -> Result<(), NoMemory>
+    requires index { IsIndexOf wanted.now.feed.now index.now }
+    requires wanted { IsSoundWanted wanted.now }
+    ensures { OnOk result (GainsOffersOf (IsTimedOffer wanted.now) into.old.items into.new.items) }
+{
+    let Place::Stop(stop) = wanted.place else {
+        return Ok(());
+    };
+    let mut rides = Vec::new(alloc);
+    add_timed_rides(
+        index,
+        wanted.feed,
+        wanted.days,
+        wanted.active,
+        stop,
+        wanted.earliest,
+        wanted.limit,
+        &mut rides,
+    )?;
+    add_offers_of_rides(wanted, rides.as_slice(), into)?;
+    Ok(())
+}
+
+// Adds the offers of rides from or to a window that board at a record that names a stop.
+fn add_stop_offers(
+    index: &RideIndex,
+    wanted: &Wanted<'_>,
+    into: &mut Vec<OfferedRun>,
+) -> Result<(), NoMemory>
+    requires index { IsIndexOf wanted.now.feed.now index.now }
+    requires wanted { IsSoundWanted wanted.now }
+    ensures { OnOk result (GainsOffersOf (λ ride deadline. IsWindowRide wanted.now ride deadline
+        × ((s : ℕ) × BoardsFrom wanted.now.feed.now (spot.Stop s) ride))
+        into.old.items into.new.items) }
+{
+    let Place::Stop(stop) = wanted.place else {
+        return Ok(());
+    };
+    add_offers_at(wanted, &index.beside_windows, stop, into)?;
+    add_offers_at(wanted, &index.stop_windows, stop, into)?;
+    Ok(())
+}
+
+// Adds the offers of rides from or to a window that board at a record that names the group.
+fn add_offers_of_group(
+    index: &RideIndex,
+    wanted: &Wanted<'_>,
+    group: u32,
+    into: &mut Vec<OfferedRun>,
+) -> Result<(), NoMemory>
+    requires index { IsIndexOf wanted.now.feed.now index.now }
+    requires wanted { IsSoundWanted wanted.now }
+    ensures { OnOk result (GainsOffersOf (λ ride deadline. IsWindowRide wanted.now ride deadline
+        × BoardsFrom wanted.now.feed.now (spot.Group group) ride)
+        into.old.items into.new.items) }
+{
+    if !serves(wanted.feed, wanted.times, Spot::Group(group), wanted.place) {
+        return Ok(());
+    }
+    add_offers_at(wanted, &index.group_windows, group, into)?;
+    Ok(())
+}
+
+// The same for a zone.
+fn add_offers_of_zone(
+    index: &RideIndex,
+    wanted: &Wanted<'_>,
+    zone: u32,
+    into: &mut Vec<OfferedRun>,
+) -> Result<(), NoMemory>
+    requires index { IsIndexOf wanted.now.feed.now index.now }
+    requires wanted { IsSoundWanted wanted.now }
+    ensures { OnOk result (GainsOffersOf (λ ride deadline. IsWindowRide wanted.now ride deadline
+        × BoardsFrom wanted.now.feed.now (spot.Zone zone) ride)
+        into.old.items into.new.items) }
+{
+    if !serves(wanted.feed, wanted.times, Spot::Zone(zone), wanted.place) {
+        return Ok(());
+    }
+    add_offers_at(wanted, &index.zone_windows, zone, into)?;
+    Ok(())
+}
+
+// The same for all groups.
+fn add_group_offers(
+    index: &RideIndex,
+    wanted: &Wanted<'_>,
+    into: &mut Vec<OfferedRun>,
+) -> Result<(), NoMemory>
+    requires index { IsIndexOf wanted.now.feed.now index.now }
+    requires wanted { IsSoundWanted wanted.now }
+    ensures { OnOk result (GainsOffersOf (λ ride deadline. IsWindowRide wanted.now ride deadline
+        × ((g : ℕ) × (g < length wanted.now.feed.now.groups)
+        × BoardsFrom wanted.now.feed.now (spot.Group g) ride))
+        into.old.items into.new.items) }
+{
+    for group in 0..wanted.feed.groups.len() {
+        add_offers_of_group(index, wanted, group as u32, into)?;
+    }
+    Ok(())
+}
+
+// The same for all zones.
+fn add_zone_offers(
+    index: &RideIndex,
+    wanted: &Wanted<'_>,
+    into: &mut Vec<OfferedRun>,
+) -> Result<(), NoMemory>
+    requires index { IsIndexOf wanted.now.feed.now index.now }
+    requires wanted { IsSoundWanted wanted.now }
+    ensures { OnOk result (GainsOffersOf (λ ride deadline. IsWindowRide wanted.now ride deadline
+        × ((z : ℕ) × (z < length wanted.now.feed.now.zones)
+        × BoardsFrom wanted.now.feed.now (spot.Zone z) ride))
+        into.old.items into.new.items) }
+{
+    for zone in 0..wanted.feed.zones.len() {
+        add_offers_of_zone(index, wanted, zone as u32, into)?;
+    }
+    Ok(())
+}
+
+/// Puts the runs that are offered from the place into the list, in place of what it held: rides from
+/// the place alone that leave at the moment or later, arrive by the limit, can be booked when asked,
+/// and alight at a stop or at the destination, each with its deadline. For each such ride one of
+/// them alights at the same place, can be booked no less late and arrives no later.
+pub fn offers_from(
+    alloc: Global,
+    index: &RideIndex,
+    wanted: &Wanted<'_>,
+    into: &mut Vec<OfferedRun>,
+) -> Result<(), NoMemory>
+    requires index { IsIndexOf wanted.now.feed.now index.now }
+    requires wanted { IsSoundWanted wanted.now }
+    ensures { OnOk result (AreOfferedFrom wanted.now into.new.items) }
+{
+    into.clear();
+    add_timed_offers(alloc, index, wanted, into)?;
+    add_stop_offers(index, wanted, into)?;
+    add_group_offers(index, wanted, into)?;
+    add_zone_offers(index, wanted, into)?;
+    Ok(())
+}
