@@ -1,24 +1,23 @@
 -- Offers of rides from or to windows, record by record and departure by departure.
-use Rattle.std.proofs.Common.{◌≡◌, ◌≢◌, ◌↔◌, ◌⊎◌, inl, inr, ℕ, ◌+◌, ◌<◌, ◌≤◌, ℤ, pos, None, Option, Some, List, [], ◌∷◌, ◌++◌, All, Contains, get_or, length, slice_get, take, refl, sym, ◌∙◌, ap, subst, arith}
+use Rattle.std.proofs.Common.{◌≡◌, ◌↔◌, inl, inr, ℕ, ◌+◌, ◌<◌, ◌≤◌, None, Some, List, [], ◌∷◌, ◌++◌, All, Contains, get_or, length, slice_get, take, refl, sym, ◌∙◌, ap, subst, arith}
 use Rattle.std.proofs.lemmas.Bool.{cases_order}
 use Rattle.std.proofs.lemmas.List.{take_more}
 use Rattle.std.proofs.lemmas.List.Elements.{Contains-append_left, Contains-push, Contains-push_cases}
 use Rattle.std.proofs.lemmas.Option.{slice_get_within}
-use Rattle.flex_model.specs.declared.feed.Feed.{Feed}
 use Rattle.flex_model.specs.declared.moment.Deadline.{Deadline}
 use Rattle.flex_model.specs.declared.ride.Ride.{Ride}
 use Rattle.flex_model.specs.declared.trip.Row.{Row}
 use Rattle.flex_model.specs.declared.trip.Trip.{Trip}
 use Rattle.flex_model.specs.declared.trip.Way.TheVariants.{No}
-use Rattle.flex_model.specs.Ride.{HasTimes, IsPermittedRide}
+use Rattle.flex_model.specs.Ride.{HasTimes}
 use Rattle.flex_model.proofs.Found.{slice_get_unique}
 use Rattle.flex_trips.specs.Windows.{HasWindowRow}
 use Rattle.ride_index.specs.Departures.{IsWithin}
 use Rattle.ride_index.specs.declared.departure.Departure.{Departure}
 use Rattle.ride_index.specs.declared.offered_run.OfferedRun.{OfferedRun}
 use Rattle.ride_index.specs.declared.wanted.Wanted.{Wanted}
-use Rattle.ride_index.specs.Legs.{BoardsAt, BoardsWith, BoardsWithAny, HasRecord, IsOfLeg, IsRowsLeg, IsRowsRide, IsWindowRide, leg_from, on_day, to_place}
-use Rattle.ride_index.specs.OfferedRuns.{GainsOffersOf, IsWantedRide}
+use Rattle.ride_index.specs.Legs.{BoardsAt, BoardsWith, BoardsWithAny, HasRecord, IsRowsLeg, IsRowsRide, IsWindowRide, leg_from}
+use Rattle.ride_index.specs.OfferedRuns.{GainsOffersOf}
 use Rattle.ride_index.proofs.OfferLists.{gains_both, gains_same}
 use Rattle.ride_index.proofs.WindowOffers.{no_start, window_of}
 

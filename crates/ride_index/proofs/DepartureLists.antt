@@ -1,14 +1,13 @@
 -- Lists of departures as they grow, record by record and trip by trip.
-use Rattle.std.proofs.Common.{◌≡◌, ◌↔◌, ◌⊎◌, inl, inr, ℕ, ◌+◌, ◌<◌, ◌≤◌, Bool, List, [], ◌∷◌, ◌++◌, Some, Contains, length, slice_get, sym, subst, arith}
+use Rattle.std.proofs.Common.{◌≡◌, ◌↔◌, inl, inr, ℕ, ◌+◌, ◌<◌, ◌≤◌, List, Some, Contains, length, slice_get, sym, subst, arith}
 use Rattle.std.proofs.lemmas.Bool.{cases_order}
-use Rattle.std.proofs.lemmas.List.Elements.{Contains-append_cases, Contains-append_left, Contains-append_right}
 use Rattle.std.specs.Prelude.{IsPermutation}
 use Rattle.std.proofs.lemmas.List.Sorted.{Contains-permutation, IsPermutation-sym}
 use Rattle.std.proofs.lemmas.Option.{slice_get_within}
 use Rattle.flex_model.specs.declared.feed.Feed.{Feed}
 use Rattle.flex_model.specs.declared.trip.Row.{Row}
 use Rattle.flex_model.specs.declared.trip.Trip.{Trip}
-use Rattle.flex_model.proofs.Found.{Contains-first, only_contained, slice_get_unique}
+use Rattle.flex_model.proofs.Found.{slice_get_unique}
 use Rattle.ride_index.specs.Departures.{HasDepartures, IsAmong, IsBoardedAt, IsDeparture, RunsSo}
 use Rattle.ride_index.proofs.RideLists.{Gained}
 use Rattle.ride_index.specs.declared.departure.Departure.{Departure}

@@ -1,10 +1,8 @@
 -- The rides from a place, by what the records where they board name.
-use Rattle.std.proofs.Common.{◌≡◌, ◌≢◌, ◌↔◌, ◌⊎◌, inl, inr, ℕ, ◌+◌, ◌<◌, ◌≤◌, ℤ, pos, false, None, Option, Some, List, [], ◌++◌, All, Contains, length, slice_get, refl, sym, ◌∙◌, ap, subst, arith}
+use Rattle.std.proofs.Common.{◌≡◌, ◌↔◌, ◌⊎◌, inl, inr, ℕ, ◌+◌, ◌<◌, false, Some, List, [], ◌++◌, All, Contains, length, slice_get, refl, sym, ◌∙◌, ap, subst, arith}
 use Rattle.std.proofs.lemmas.Bool.{cases_order}
-use Rattle.std.proofs.lemmas.Option.{slice_get_within}
 use Rattle.flex_model.specs.declared.feed.Feed.{Feed}
 use Rattle.flex_model.specs.declared.moment.Deadline.{Deadline}
-use Rattle.flex_model.specs.declared.place.Place.{Place}
 use Rattle.flex_model.specs.declared.place.Place.TheVariants as place
 use Rattle.flex_model.specs.declared.ride.Ride.{Ride}
 use Rattle.flex_model.specs.declared.trip.Row.{Row}
@@ -14,7 +12,7 @@ use Rattle.flex_model.specs.declared.trip.Timing.{Timing}
 use Rattle.flex_model.specs.declared.trip.Timing.TheVariants as timing
 use Rattle.flex_model.specs.declared.trip.Trip.{Trip}
 use Rattle.flex_model.specs.Place.{Serves}
-use Rattle.flex_model.specs.Ride.{HasTimes, IsPermittedRide, StartsRightly}
+use Rattle.flex_model.specs.Ride.{HasTimes, StartsRightly}
 use Rattle.flex_model.specs.SoundFeed.{IsSoundFeed, IsSoundRow, IsSoundSpot, IsSoundTiming, IsSoundTrip}
 use Rattle.flex_model.proofs.Found.{All-at, All-from_contains, none_contained, slice_get_unique}
 use Rattle.fixed_trips.specs.Timed.{HasTimedRow}
@@ -26,7 +24,7 @@ use Rattle.ride_index.specs.declared.departure.DepartureKind.{DepartureKind}
 use Rattle.ride_index.specs.declared.departure.DepartureKind.TheVariants.{AtStarts, BesideWindow, GroupWindow, Once, StopWindow, ZoneWindow}
 use Rattle.ride_index.specs.declared.offered_run.OfferedRun.{OfferedRun}
 use Rattle.ride_index.specs.declared.wanted.Wanted.{Wanted}
-use Rattle.ride_index.specs.Legs.{AreAtRecords, BoardsFrom, BoardsWith, HasSpot, IsTimedOffer, IsWindowRide}
+use Rattle.ride_index.specs.Legs.{AreAtRecords, BoardsFrom, BoardsWith, IsTimedOffer, IsWindowRide}
 use Rattle.ride_index.specs.OfferedRuns.{AreOffersOf, GainsOffersOf, IsReachable, IsSoundWanted, IsWantedRide}
 use Rattle.ride_index.specs.TimedRides.{IsTimedRide}
 use Rattle.ride_index.proofs.OfferLists.{gains_both, gains_same}

@@ -1,30 +1,24 @@
 -- The rides of a leg as runs.
-use Rattle.std.proofs.Common.{◌≡◌, ◌↔◌, ◌⊎◌, inl, inr, ℕ, zero, suc, ◌+◌, ◌-◌, ◌*◌, ◌<◌, ◌≤◌, ℤ, pos, ◌+ℤ◌, ◌≤ℤ◌, min, Option, None, Some, IfSome, List, [], ◌∷◌, Contains, refl, sym, ◌∙◌, ap, subst, arith}
+use Rattle.std.proofs.Common.{◌≡◌, ◌↔◌, ℕ, ◌-◌, ◌*◌, ◌<◌, ℤ, pos, ◌+ℤ◌, ◌≤ℤ◌, min, None, Some, [], ◌∷◌, refl, sym, ◌∙◌, ap, subst, arith}
 use Rattle.std.proofs.lemmas.Int.{ints}
-use Rattle.flex_model.specs.declared.feed.Feed.{Feed}
-use Rattle.flex_model.specs.declared.moment.DayTable.{DayTable}
 use Rattle.flex_model.specs.declared.moment.Deadline.{Deadline}
 use Rattle.flex_model.specs.declared.ride.Arrives.{Arrives}
 use Rattle.flex_model.specs.declared.ride.Arrives.TheVariants.{After, At}
 use Rattle.flex_model.specs.declared.ride.Ride.{Ride}
 use Rattle.flex_model.specs.declared.ride.Run.{Run}
-use Rattle.flex_model.specs.declared.times.Times.{Times}
 use Rattle.flex_model.specs.Booking.{IsBookable, IsDeadline}
-use Rattle.flex_model.specs.Deadline.{IsNoLater, lesser}
+use Rattle.flex_model.specs.Deadline.{IsNoLater}
 use Rattle.flex_model.specs.Ride.{IsPermittedRide}
-use Rattle.flex_model.specs.Run.{IsArrival, IsInRun, IsInRuns, IsRunOf, Leg, ride_of}
-use Rattle.flex_model.specs.SoundFeed.{IsSoundFeed}
-use Rattle.flex_model.specs.SoundQuery.{IsSoundDayTable}
+use Rattle.flex_model.specs.Run.{IsArrival, IsInRun, IsRunOf, Leg, ride_of}
 use Rattle.flex_model.proofs.Bookings.{IsDeadline_unique}
 use Rattle.flex_model.proofs.Found.{Contains-first, only_contained}
-use Rattle.booking_rules.specs.Departures.{IsCoveredBy, IsKept, IsOpen, IsOpenUntil, LeavesInRange, later, nth_departure, pair_of, ride_at}
-use Rattle.booking_rules.specs.Openings.{IsInRange}
+use Rattle.booking_rules.specs.Departures.{IsKept, IsOpenUntil, LeavesInRange, nth_departure, ride_at}
 use Rattle.booking_rules.proofs.LaterRides.{deadline_between}
 use Rattle.booking_rules.proofs.PermittedDepartures.{departs_in_range}
 use Rattle.ride_index.specs.declared.offered_run.OfferedRun.{OfferedRun}
 use Rattle.ride_index.specs.declared.wanted.Wanted.{Wanted}
-use Rattle.ride_index.specs.Legs.{IsInTime, IsKeptRun, IsLegOf, IsLegRide, IsOfLeg, arrival_then}
-use Rattle.ride_index.specs.OfferedRuns.{AreOffersOf, IsCovered, IsReachable, IsSoundWanted, IsWantedRide, nth_deadline, nth_ride}
+use Rattle.ride_index.specs.Legs.{IsInTime, IsKeptRun, IsLegOf, IsLegRide, arrival_then}
+use Rattle.ride_index.specs.OfferedRuns.{AreOffersOf, IsReachable, IsSoundWanted, nth_deadline, nth_ride}
 
 pub is_arrival : (how : Arrives) (departs : ℤ) → IsArrival how departs (arrival_then how departs)
 is_arrival (After seconds) departs = refl
@@ -252,3 +246,11 @@ none_of_leg wanted leg day of on runs ride deadline h =
       arrives = ride.arrives;
     } in
     (runs.rides ride.departs ride.arrives).1 (subst (IsPermittedRide wanted.feed.now wanted.times.now wanted.days.now) (h.1 ∙ same) h.0.permitted)
+
+-- a ride of what is kept, as the code makes it
+pub ride_of_kept : (wanted : Wanted) (leg : Ride) (kept : Run) → IsKeptRun wanted leg kept → (k : ℕ) → k < kept.count → (made : Ride)
+    → made ≡ ride_at leg (nth_departure kept k) (arrival_then kept.arrives (nth_departure kept k))
+    → IsReachable wanted made × IsBookable wanted.feed.now wanted.days.now made wanted.asked
+ride_of_kept wanted leg kept is k lt made e =
+    subst (λ x. IsReachable wanted x × IsBookable wanted.feed.now wanted.days.now x wanted.asked) (sym e)
+    (is.each (nth_departure kept k) (arrival_then kept.arrives (nth_departure kept k)) (nth_in_run kept k lt))

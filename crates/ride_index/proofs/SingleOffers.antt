@@ -1,21 +1,20 @@
 -- Offers of single rides.
-use Rattle.std.proofs.Common.{◌≡◌, ◌↔◌, ◌⊎◌, inl, inr, ℕ, ◌+◌, ◌*◌, ◌<◌, ◌≤◌, ℤ, pos, ◌+ℤ◌, ◌≤ℤ◌, IsTrue, List, [], ◌∷◌, ◌++◌, Contains, get_or, length, take, refl, sym, ◌∙◌, ap, subst, arith}
+use Rattle.std.proofs.Common.{◌≡◌, inl, inr, ℕ, ◌+◌, ◌*◌, ◌<◌, pos, ◌+ℤ◌, List, [], ◌∷◌, ◌++◌, Contains, get_or, length, take, refl, sym, ◌∙◌, ap, subst, arith}
 use Rattle.std.proofs.lemmas.Int.{clamps, ints}
 use Rattle.std.proofs.lemmas.List.{take_more}
 use Rattle.std.proofs.lemmas.List.Elements.{Contains-append_left, Contains-push, Contains-push_cases}
 use Rattle.flex_model.specs.declared.moment.Deadline.{Deadline}
 use Rattle.flex_model.specs.declared.moment.Deadline.TheVariants.{At, Never}
 use Rattle.flex_model.specs.declared.ride.Ride.{Ride}
-use Rattle.flex_model.specs.Booking.{IsBookable, IsDeadline}
+use Rattle.flex_model.specs.Booking.{IsDeadline}
 use Rattle.flex_model.specs.Deadline.{IsNoLater, lesser}
-use Rattle.flex_model.specs.Place.{IsStop}
 use Rattle.flex_model.proofs.Bookings.{IsDeadline_unique}
 use Rattle.flex_model.proofs.Found.{Contains-first, only_contained}
 use Rattle.flex_model.proofs.Orders.{IsNoLater_refl}
 use Rattle.booking_rules.specs.Departures.{later}
 use Rattle.ride_index.specs.declared.offered_run.OfferedRun.{OfferedRun}
 use Rattle.ride_index.specs.declared.wanted.Wanted.{Wanted}
-use Rattle.ride_index.specs.OfferedRuns.{AreOffersOf, GainsOffersOf, IsCovered, IsReachable, IsWantedRide, nth_deadline, nth_ride}
+use Rattle.ride_index.specs.OfferedRuns.{AreOffersOf, GainsOffersOf, IsWantedRide, nth_deadline, nth_ride}
 use Rattle.ride_index.proofs.OfferLists.{gains_both}
 
 later_by_none : (d : Deadline) → later d 0 ≡ d

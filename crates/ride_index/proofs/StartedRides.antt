@@ -1,5 +1,5 @@
 -- The rides that leave with a departure are those that alight at a later record of its trip.
-use Rattle.std.proofs.Common.{◌≡◌, ◌↔◌, ℕ, ◌<◌, ℤ, pos, ◌+ℤ◌, Option, None, Some, IfNone, IfSome, get_or, length, List, slice_get, refl, sym, ◌∙◌, ap, subst, Bool, arith}
+use Rattle.std.proofs.Common.{◌≡◌, ◌↔◌, ℕ, ◌<◌, ℤ, pos, ◌+ℤ◌, Option, None, Some, IfNone, IfSome, get_or, length, List, slice_get, refl, sym, ◌∙◌, ap, subst, arith}
 use Rattle.std.proofs.lemmas.Int.{ints}
 use Rattle.flex_model.specs.declared.feed.Feed.{Feed}
 use Rattle.flex_model.specs.declared.moment.DayTable.{DayTable}

@@ -1,5 +1,5 @@
 -- Offers of rides from or to windows, day by day and place by place.
-use Rattle.std.proofs.Common.{◌≡◌, ◌↔◌, ◌⊎◌, inl, inr, ℕ, ◌+◌, ◌<◌, ◌≤◌, ℤ, pos, ◌+ℤ◌, ◌≤ℤ◌, ◌<ℤ◌, None, Option, Some, List, All, Contains, length, slice_get, refl, sym, ◌∙◌, ap, subst, arith}
+use Rattle.std.proofs.Common.{◌≡◌, ◌↔◌, ◌⊎◌, inl, inr, ℕ, ◌+◌, ◌*◌, ◌<◌, ◌≤◌, ℤ, pos, ◌+ℤ◌, ◌≤ℤ◌, ◌<ℤ◌, None, Option, Some, List, Contains, length, slice_get, refl, sym, ◌∙◌, ap, subst, arith}
 use Rattle.std.proofs.lemmas.Bool.{cases_order}
 use Rattle.std.proofs.lemmas.Int.{by_lt_z, ints}
 use Rattle.std.proofs.lemmas.Option.{slice_get_within}
@@ -16,16 +16,19 @@ use Rattle.flex_model.specs.declared.trip.Timing.{Timing}
 use Rattle.flex_model.specs.declared.trip.Timing.TheVariants as timing
 use Rattle.flex_model.specs.declared.trip.Trip.{Trip}
 use Rattle.flex_model.specs.Place.{IsStop, Serves}
-use Rattle.flex_model.specs.Ride.{Arrives, HasTimes, IsPermittedRide, RunsOn, StartsRightly}
-use Rattle.flex_model.specs.ServiceDay.{IsTravelDay}
+use Rattle.flex_model.specs.Ride.{Arrives, HasTimes, IsPermittedRide, Leaves, RunsOn, StartsRightly, shift}
+use Rattle.flex_model.specs.ServiceDay.{BeginsAt, IsTravelDay}
+use Rattle.flex_model.specs.SoundFeed.{IsSoundFeed}
 use Rattle.flex_model.specs.Times.{HasSeconds}
-use Rattle.flex_model.proofs.Found.{All-at, Contains-at, index_of, slice_get_unique}
+use Rattle.flex_model.proofs.Certificates.{ride_forwards}
+use Rattle.flex_model.proofs.DayLaws.{BeginsAt_unique}
+use Rattle.flex_model.proofs.Found.{All-at, index_of, slice_get_unique}
 use Rattle.service_days.specs.Running.{IsRunning}
 use Rattle.flex_trips.specs.Windows.{HasWindowRow}
 use Rattle.ride_index.specs.declared.offered_run.OfferedRun.{OfferedRun}
 use Rattle.ride_index.specs.declared.wanted.Wanted.{Wanted}
-use Rattle.ride_index.specs.Legs.{HasSpot, IsLegOf, IsLegRide, IsOfLeg, IsPlacesRide, IsRowsLeg, IsRowsRide, on_day, to_place}
-use Rattle.ride_index.specs.OfferedRuns.{GainsOffersOf, IsWantedRide}
+use Rattle.ride_index.specs.Legs.{HasSpot, IsLegOf, IsLegRide, IsOfLeg, IsPlacesRide, IsRowsLeg, IsRowsRide, first_second, last_second, on_day, to_place}
+use Rattle.ride_index.specs.OfferedRuns.{GainsOffersOf}
 use Rattle.ride_index.proofs.OfferLists.{gains_both, gains_same}
 
 -- where the trip doesn't run, no ride of the leg is wanted
@@ -244,3 +247,43 @@ pub listed_spans : (wanted : Wanted) (all spans : List Span) → all ≡ wanted.
     → ((span : Span) → Contains spans span ↔ (Contains all span × (span.from ≡ wanted.place)))
     → (span : Span) → Contains spans span ↔ (Contains wanted.times.now.direct span × (span.from ≡ wanted.place))
 listed_spans wanted all spans e listed span = subst (λ xs. Contains spans span ↔ (Contains xs span × (span.from ≡ wanted.place))) e (listed span)
+
+-- ---- the days on which one may leave in time
+
+-- the second of the day at which a ride without a shift leaves
+leaves_second : (days : DayTable) (ride : Ride) (day base by : ℤ) (t : Timing) → by ≡ pos 0 → ride.day ≡ day → BeginsAt days day base → Leaves days ride by t
+    → (second : ℕ) × (first_second t ≤ second) × (second ≤ last_second t) × (ride.departs ≡ base +ℤ pos second)
+leaves_second days ride day base by (timing.Times arrives departs) none on begins h =
+    let same : h.1.0 ≡ base = BeginsAt_unique days day h.1.0 base (subst (λ d. BeginsAt days d h.1.0) on h.1.1) begins in
+    let scheduled : h.0 ≡ h.1.0 +ℤ pos departs = h.1.2 in
+    let then : ride.departs ≡ h.0 +ℤ by = h.2 in
+    (departs, omega arith, omega arith, omega (arith, ints, same, scheduled, then, none))
+leaves_second days ride day base by (timing.Window start end) none on begins h =
+    let same : h.3.0 ≡ base = BeginsAt_unique days day h.3.0 base (subst (λ d. BeginsAt days d h.3.0) on h.3.1) begins in
+    let then : ride.departs ≡ h.3.0 +ℤ pos (60 * h.0) = h.3.2 in
+    (60 * h.0, h.1, h.2, omega (arith, ints, same, then))
+
+pub none_leaving : (wanted : Wanted) (leg : Ride) (day base : ℤ) (trip : Trip) (row : Row) → IsSoundFeed wanted.feed.now → HasWindowRow wanted.feed.now leg.trip leg.from_row leg.to_row
+    → slice_get wanted.feed.now.trips leg.trip ≡ Some trip → slice_get trip.rows leg.from_row ≡ Some row → BeginsAt wanted.days.now day base
+    → ((wanted.earliest ≤ℤ (base +ℤ pos (last_second row.timing))) × ((base +ℤ pos (first_second row.timing)) ≤ℤ wanted.limit) → ⊥)
+    → (ride : Ride) (deadline : Deadline) → IsLegRide wanted (on_day leg day) ride deadline → ⊥
+none_leaving wanted leg day base trip row sound rows at at_row begins never ride deadline h =
+    let feed = wanted.feed.now in
+    let p = h.0.permitted in
+    let of : ride.trip ≡ leg.trip = ap (λ r. r.trip) h.1 in
+    let from : ride.from_row ≡ leg.from_row = ap (λ r. r.from_row) h.1 in
+    let to : ride.to_row ≡ leg.to_row = ap (λ r. r.to_row) h.1 in
+    let on : ride.day ≡ day = ap (λ r. r.day) h.1 in
+    let w : HasWindowRow feed ride.trip ride.from_row ride.to_row =
+    subst (λ k. HasWindowRow feed k ride.from_row ride.to_row) (sym of) (subst (λ k. HasWindowRow feed leg.trip k ride.to_row) (sym from) (subst (HasWindowRow feed leg.trip leg.from_row) (sym to) rows)) in
+    let start = no_start feed wanted.times.now wanted.days.now ride p w in
+    let t : p.trip ≡ trip = slice_get_unique feed.trips leg.trip p.trip trip (subst (λ k. slice_get feed.trips k ≡ Some p.trip) of p.of_trip) at in
+    let b : p.boarding ≡ row = slice_get_unique trip.rows leg.from_row p.boarding row (subst (λ k. slice_get trip.rows k ≡ Some p.boarding) from (subst (λ x. slice_get x.rows ride.from_row ≡ Some p.boarding) t p.at_boarding)) at_row in
+    let l = leaves_second wanted.days.now ride day base (shift p.trip ride.start) row.timing (ap (shift p.trip) start) on begins (subst (λ r. Leaves wanted.days.now ride (shift p.trip ride.start) r.timing) b p.leaves) in
+    let low = l.1 in
+    let high = l.2 in
+    let then = l.3 in
+    let forwards = ride_forwards feed wanted.times.now wanted.days.now ride sound p in
+    let early = h.0.leaves in
+    let late = h.0.arrives in
+    never (omega (arith, ints, high, then, early), omega (arith, ints, low, then, forwards, late))

@@ -9,7 +9,7 @@
 --
 -- GTFS Schedule reference, stop_times.txt (stop_id, location_group_id, location_id, departure_time,
 -- start_pickup_drop_off_window, pickup_type) and frequencies.txt. The lists are this project's own.
-use Rattle.std.specs.Prelude.{◌≡◌, ◌≢◌, ◌↔◌, ℕ, ◌<◌, ◌≤◌, Bool, true, false, IsTrue, ◌&&◌, ◌||◌, nat_lt, nat_eq, List, Some, All, AllPairs, Contains, slice_get}
+use Rattle.std.specs.Prelude.{◌≡◌, ◌≢◌, ◌↔◌, ℕ, ◌<◌, ◌≤◌, Bool, false, IsTrue, ◌&&◌, ◌||◌, nat_lt, nat_eq, List, Some, All, AllPairs, Contains, slice_get}
 use Rattle.flex_model.specs.declared.feed.Feed.{Feed}
 use Rattle.flex_model.specs.declared.trip.Row.{Row}
 use Rattle.flex_model.specs.declared.trip.Spot.{Spot}

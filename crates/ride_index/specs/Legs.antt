@@ -7,6 +7,8 @@ use Rattle.flex_model.specs.declared.moment.Deadline.{Deadline}
 use Rattle.flex_model.specs.declared.place.Place.{Place}
 use Rattle.flex_model.specs.declared.trip.Row.{Row}
 use Rattle.flex_model.specs.declared.trip.Spot.{Spot}
+use Rattle.flex_model.specs.declared.trip.Timing.{Timing}
+use Rattle.flex_model.specs.declared.trip.Timing.TheVariants as timing
 use Rattle.flex_model.specs.declared.trip.Trip.{Trip}
 use Rattle.fixed_trips.specs.Timed.{HasTimedRow}
 use Rattle.flex_trips.specs.Windows.{HasWindowRow}
@@ -16,7 +18,6 @@ use Rattle.flex_model.specs.declared.ride.Ride.{Ride}
 use Rattle.flex_model.specs.declared.ride.Run.{Run}
 use Rattle.flex_model.specs.Booking.{IsBookable}
 use Rattle.flex_model.specs.Place.{IsStop}
-use Rattle.flex_model.specs.Ride.{IsPermittedRide}
 use Rattle.flex_model.specs.Run.{IsInRun}
 use Rattle.booking_rules.specs.Departures.{HasOneAtMoment, IsCoveredBy, LeavesInRange, ride_at}
 use Rattle.ride_index.specs.declared.departure.Departure.{Departure}
@@ -145,3 +146,12 @@ IsTimedOffer wanted ride deadline =
     IsWantedRide wanted ride deadline
     × HasTimedRow wanted.feed.now ride.trip ride.from_row
     × HasTimedRow wanted.feed.now ride.trip ride.to_row
+
+-- the first and the last second of a service day at which one may leave a record
+abbrev pub first_second : Timing → ℕ
+first_second (timing.Times arrives departs) = departs
+first_second (timing.Window start end) = start
+
+abbrev pub last_second : Timing → ℕ
+last_second (timing.Times arrives departs) = departs
+last_second (timing.Window start end) = end

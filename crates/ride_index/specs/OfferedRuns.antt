@@ -6,7 +6,7 @@
 -- run that alights at the same place: that one can be booked no less late and arrives no later.
 --
 -- This project's own.
-use Rattle.std.specs.Prelude.{◌≡◌, ◌⊎◌, ℕ, ◌*◌, ◌<◌, ℤ, pos, ◌+ℤ◌, ◌≤ℤ◌, List, ◌++◌, Contains}
+use Rattle.std.specs.Prelude.{◌≡◌, ◌⊎◌, ℕ, ◌*◌, ◌<◌, pos, ◌+ℤ◌, ◌≤ℤ◌, List, ◌++◌, Contains}
 use Rattle.flex_model.specs.declared.moment.Deadline.{Deadline}
 use Rattle.flex_model.specs.declared.ride.Ride.{Ride}
 use Rattle.flex_model.specs.Booking.{IsBookable, IsDeadline}

@@ -1,5 +1,5 @@
 -- Where direct times begin, among times that rise by where they begin. This project's own.
-use Rattle.std.specs.Prelude.{Bool, ◌||◌}
+use Rattle.std.specs.Prelude.{Bool}
 use Rattle.std.specs.Ordering.{is_lt, is_le}
 use Rattle.flex_model.specs.declared.place.Place.{Place}
 use Rattle.flex_model.specs.declared.times.Span.{Span}

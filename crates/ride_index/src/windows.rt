@@ -1,21 +1,59 @@
 // Offers of rides from or to records with windows.
 
-ghost use Rattle.std.specs.Prelude.{◌≡◌, ◌⊎◌, OnOk};
-ghost use Rattle.flex_model.specs.Place.{IsStop};
-ghost use Rattle.flex_model.specs.ServiceDay.{IsTravelDay};
+ghost use Rattle.std.specs.Prelude.{◌≡◌, ◌↔◌, ◌≤ℤ◌, ◌+ℤ◌, pos, IsTrue, OnOk};
 ghost use Rattle.flex_trips.specs.Windows.{HasWindowRow};
 ghost use Rattle.ride_index.specs.Legs.{HasSpot, IsLegOf, IsLegRide, IsPlacesRide, IsRowsLeg, IsRowsRide, on_day};
+ghost use Rattle.ride_index.specs.Legs as Legs;
 ghost use Rattle.ride_index.specs.OfferedRuns.{GainsOffersOf, IsSoundWanted};
 
 use crate::active_days::day_after;
 use crate::legs::offer_of_leg;
 use crate::offered_run::OfferedRun;
 use crate::offers::{add_offer, may_alight};
+use crate::rides::running_base;
 use crate::spans::spans_from;
 use crate::wanted::Wanted;
-use flex_model::{NoMemory, Ride, Spot};
+use flex_model::{Moment, NoMemory, Ride, Spot, Timing};
 use service_days::first_travel_day;
 use zone_test::serves;
+
+// The first second of a service day at which one may leave the record.
+fn first_second(boarding: Timing) -> u32
+    ensures { result ≡ Legs.first_second boarding }
+{
+    match boarding {
+        Timing::Times { departs, .. } => departs,
+        Timing::Window { start, .. } => start,
+    }
+}
+
+// The last one.
+fn last_second(boarding: Timing) -> u32
+    ensures { result ≡ Legs.last_second boarding }
+{
+    match boarding {
+        Timing::Times { departs, .. } => departs,
+        Timing::Window { end, .. } => end,
+    }
+}
+
+// Whether one may leave the record between the two moments, on a day that begins then.
+fn may_leave(base: Moment, boarding: Timing, earliest: Moment, limit: Moment) -> bool
+    requires low { pos 0 ≤ℤ (base +ℤ pos 100000) }
+    requires high { base ≤ℤ pos 10000000000 }
+    ensures { IsTrue result ↔ ((earliest ≤ℤ (base +ℤ pos (Legs.last_second boarding)))
+        × ((base +ℤ pos (Legs.first_second boarding)) ≤ℤ limit)) }
+{
+    let last = base + i64::from(last_second(boarding));
+    if last < earliest {
+        return false;
+    }
+    let first = base + i64::from(first_second(boarding));
+    if limit < first {
+        return false;
+    }
+    true
+}
 
 // Adds the offer of the leg on the day.
 fn add_offer_on_day(
@@ -31,10 +69,11 @@ fn add_offer_on_day(
         into.old.items into.new.items) }
 {
     let trip = &wanted.feed.trips[leg.trip as usize];
-    if !wanted
-        .active
-        .is_running(wanted.feed, wanted.days, trip, day)
-    {
+    let Some(base) = running_base(wanted.feed, wanted.days, wanted.active, trip, day) else {
+        return Ok(());
+    };
+    let boarding = trip.rows[leg.from_row as usize].timing;
+    if !may_leave(base, boarding, wanted.earliest, wanted.limit) {
         return Ok(());
     }
     add_offer(offer_of_leg(wanted, &Ride { day, ..*leg }), into)?;

@@ -1,5 +1,5 @@
 -- The departures that name this.
-use Rattle.std.proofs.Common.{◌≡◌, refl}
+use Rattle.std.proofs.Common.{refl}
 use Rattle.ride_index.proofs.BoardingOffers.{gains_at}
 use Rattle.ride_index.proofs.boardings.add_offers_at.Goals as goal
 

@@ -1,8 +1,8 @@
 -- The rides between two records of which one has a window.
-use Rattle.std.proofs.Common.{◌≡◌, rules, true, false, sym, ◌∙◌, subst}
+use Rattle.std.proofs.Common.{◌≡◌, rules, sym, ◌∙◌, subst}
 use Rattle.std.proofs.lemmas.Bool.{false≢true}
 use Rattle.flex_model.specs.declared.trip.Way.TheVariants.{No}
-use Rattle.ride_index.specs.Legs.{HasSpot, IsRowsLeg}
+use Rattle.ride_index.specs.Legs.{IsRowsLeg}
 use Rattle.ride_index.proofs.BoardingOffers.{IsBetween, gains_between, none_left, none_timed, rows_leg}
 use Rattle.ride_index.proofs.OfferLists.{gains_none}
 use Rattle.ride_index.proofs.boardings.add_offers_between.Goals as goal

@@ -1,8 +1,6 @@
 -- Departure by departure.
-use Rattle.std.proofs.Common.{◌≡◌, get_or, length, subst, arith}
+use Rattle.std.proofs.Common.{subst, arith}
 use Rattle.std.proofs.lemmas.List.{take_all}
-use Rattle.std.proofs.lemmas.Option.{slice_get-get_or}
-use Rattle.flex_model.proofs.Found.{Contains-at}
 use Rattle.ride_index.specs.declared.departure.Departure.{Departure}
 use Rattle.ride_index.specs.Legs.{BoardsWithAny, IsWindowRide}
 use Rattle.ride_index.specs.OfferedRuns.{GainsOffersOf}

@@ -1,5 +1,5 @@
 -- Record by record.
-use Rattle.std.proofs.Common.{◌≡◌, get_or, length, refl, sym, ◌∙◌, ap, arith}
+use Rattle.std.proofs.Common.{get_or, length, refl, ◌∙◌, ap, arith}
 use Rattle.std.proofs.lemmas.Option.{slice_get_read, slice_get_within}
 use Rattle.ride_index.proofs.BoardingOffers.{IsToEarly, all_rows, next_row, none_earlier}
 use Rattle.ride_index.proofs.OfferLists.{gains_none}

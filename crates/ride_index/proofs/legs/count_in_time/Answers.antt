@@ -1,5 +1,5 @@
 -- Where each ride arrives after the same time, those that leave early enough are in time.
-use Rattle.std.proofs.Common.{◌≡◌, ◌↔◌, ℕ, ◌*◌, ◌<◌, ℤ, pos, ◌+ℤ◌, ◌≤ℤ◌, w64, to_z, of_z, rules, subst, arith}
+use Rattle.std.proofs.Common.{◌≡◌, ◌↔◌, ℕ, ◌*◌, ◌<◌, pos, ◌+ℤ◌, ◌≤ℤ◌, w64, to_z, of_z, rules, subst, arith}
 use Rattle.std.proofs.lemmas.Int.{ints, to_z-of_z}
 use Rattle.ride_index.proofs.LegRuns.{count_after}
 use Rattle.ride_index.proofs.legs.count_in_time.Goals as goal

@@ -1,5 +1,5 @@
 -- The first rides of the run are in time.
-use Rattle.std.proofs.Common.{◌≡◌, ◌↔◌, ℕ, ◌<◌, ◌≤ℤ◌, w64, to_z, of_z, rules, SFits, sym, subst, arith}
+use Rattle.std.proofs.Common.{◌≡◌, ◌↔◌, ℕ, ◌<◌, ◌≤ℤ◌, w64, to_z, of_z, rules, SFits, sym, subst}
 use Rattle.std.proofs.lemmas.Int.{to_z-of_z}
 use Rattle.flex_model.specs.Run.{IsInRun}
 use Rattle.booking_rules.specs.Departures.{nth_departure}

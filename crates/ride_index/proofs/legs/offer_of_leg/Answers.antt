@@ -1,10 +1,9 @@
 -- From the run of the leg to what is kept of it.
-use Rattle.std.proofs.Common.{◌≡◌, ◌↔◌, ℤ, w32, w64, to_z, of_z, rules, SFits, sym, ◌∙◌, subst, arith}
+use Rattle.std.proofs.Common.{◌≡◌, ◌↔◌, ℤ, w32, w64, to_z, of_z, rules, SFits, sym, subst}
 use Rattle.std.proofs.lemmas.Int.{to_z-of_z}
 use Rattle.std.proofs.lemmas.Option.{slice_get_within}
-use Rattle.flex_model.specs.declared.moment.Deadline.{Deadline}
 use Rattle.flex_model.specs.Run.{IsInRun}
-use Rattle.booking_rules.specs.Departures.{IsCoveredBy, IsKept, IsOpen, IsOpenUntil}
+use Rattle.booking_rules.specs.Departures.{IsKept, IsOpen, IsOpenUntil}
 use Rattle.ride_index.specs.Legs.{IsInTime, IsLegRide}
 use Rattle.ride_index.proofs.LegRuns.{kept_reachable, none_of_leg, nth_in_run, permitted_in_run, run_in_range, wanted_in_run, wanted_open}
 use Rattle.ride_index.proofs.OfferLists.{no_offers}

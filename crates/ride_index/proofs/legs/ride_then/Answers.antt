@@ -1,4 +1,4 @@
-use Rattle.std.proofs.Common.{◌≡◌, pos, ◌+ℤ◌, ◌*ℤ◌, w32, w64, to_z, of_z, rules, SFits, sym, ◌∙◌, ap, arith}
+use Rattle.std.proofs.Common.{◌≡◌, pos, ◌+ℤ◌, ◌*ℤ◌, w32, w64, to_z, of_z, rules, SFits, ◌∙◌, ap, arith}
 use Rattle.std.proofs.lemmas.Int.{ints, to_z-of_z}
 use Rattle.booking_rules.specs.Departures.{nth_departure}
 use Rattle.ride_index.specs.Legs.{arrival_then}

@@ -1,5 +1,5 @@
 -- Ride by ride.
-use Rattle.std.proofs.Common.{◌≡◌, ◌<◌, Contains, get_or, length, take, refl, sym, ◌∙◌, subst, arith}
+use Rattle.std.proofs.Common.{◌≡◌, Contains, get_or, subst, arith}
 use Rattle.std.proofs.lemmas.List.{take_all}
 use Rattle.std.proofs.lemmas.Option.{slice_get-get_or}
 use Rattle.flex_model.specs.declared.place.Place.TheVariants as place
@@ -7,7 +7,7 @@ use Rattle.flex_model.specs.declared.ride.Ride.{Ride}
 use Rattle.flex_model.proofs.Found.{Contains-at}
 use Rattle.std.proofs.Common.{None, pos}
 use Rattle.ride_index.specs.OfferedRuns.{GainsOffersOf, IsWantedRide}
-use Rattle.ride_index.proofs.OfferLists.{gains_added, gains_none}
+use Rattle.ride_index.proofs.OfferLists.{gains_added}
 use Rattle.ride_index.proofs.SingleOffers.{next_ride}
 use Rattle.ride_index.proofs.offers.add_offers_of_rides.Goals as goal
 

@@ -1,5 +1,5 @@
 -- A permitted ride leaves in the range in which bookings are told.
-use Rattle.std.proofs.Common.{◌≡◌, w64, to_z, of_z, rules, SFits, IfNone, IfSome, subst}
+use Rattle.std.proofs.Common.{w64, rules, SFits, IfNone, IfSome, subst}
 use Rattle.std.proofs.lemmas.Int.{to_z-of_z}
 use Rattle.flex_model.specs.Booking.{IsBookable, IsDeadline}
 use Rattle.booking_rules.proofs.PermittedDepartures.{departs_in_range}

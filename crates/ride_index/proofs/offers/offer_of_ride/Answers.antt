@@ -1,10 +1,8 @@
 -- A permitted ride is wanted where it can be booked and alights at a stop or at the destination.
-use Rattle.std.proofs.Common.{◌≡◌, ◌⊎◌, w64, to_z, of_z, rules, SFits, sym, ◌∙◌, subst}
+use Rattle.std.proofs.Common.{◌≡◌, ◌⊎◌, sym, ◌∙◌, subst}
 use Rattle.std.proofs.lemmas.Bool.{false≢true}
-use Rattle.std.proofs.lemmas.Int.{to_z-of_z}
 use Rattle.flex_model.specs.Booking.{IsBookable}
 use Rattle.flex_model.specs.Place.{IsStop}
-use Rattle.booking_rules.proofs.PermittedDepartures.{departs_in_range}
 use Rattle.ride_index.specs.OfferedRuns.{IsWantedRide}
 use Rattle.ride_index.proofs.OfferLists.{no_offers}
 use Rattle.ride_index.proofs.SingleOffers.{single_offer}

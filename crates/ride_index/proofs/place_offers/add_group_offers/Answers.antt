@@ -1,5 +1,5 @@
 -- Group by group.
-use Rattle.std.proofs.Common.{◌≡◌, length, sym, ◌∙◌, ap, subst, arith}
+use Rattle.std.proofs.Common.{◌≡◌, length, subst, arith}
 use Rattle.ride_index.proofs.FromPlace.{FromGroups, next_group}
 use Rattle.ride_index.proofs.OfferLists.{gains_none}
 use Rattle.ride_index.specs.OfferedRuns.{GainsOffersOf}

@@ -1,5 +1,4 @@
 -- A record that names a stop serves that stop alone.
-use Rattle.std.proofs.Common.{ℕ}
 use Rattle.flex_model.specs.declared.trip.Spot.TheVariants as spot
 use Rattle.ride_index.specs.declared.departure.DepartureKind.TheVariants.{BesideWindow, StopWindow}
 use Rattle.ride_index.proofs.FromPlace.{FromStops, gains_stops, low_of, records_of, served}

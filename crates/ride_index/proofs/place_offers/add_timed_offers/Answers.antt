@@ -1,9 +1,8 @@
 -- Rides between records with times board at stops.
-use Rattle.std.proofs.Common.{◌≡◌, ◌↔◌, ◌⊎◌, inl, inr, [], w64, to_z, of_z, rules, SFits, Contains, sym, ◌∙◌, subst}
+use Rattle.std.proofs.Common.{◌↔◌, w64, to_z, of_z, rules, SFits, Contains, subst}
 use Rattle.std.proofs.lemmas.Int.{to_z-of_z}
 use Rattle.flex_model.specs.declared.ride.Ride.{Ride}
 use Rattle.ride_index.specs.Legs.{IsTimedOffer}
-use Rattle.ride_index.specs.OfferedRuns.{GainsOffersOf, IsReachable}
 use Rattle.ride_index.specs.TimedRides.{IsTimedRide}
 use Rattle.ride_index.proofs.FromPlace.{gains_timed, only_added, timed_at_stop, timed_reachable}
 use Rattle.ride_index.proofs.OfferLists.{gains_none}

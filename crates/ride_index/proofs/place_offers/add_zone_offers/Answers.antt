@@ -1,5 +1,5 @@
 -- Zone by zone.
-use Rattle.std.proofs.Common.{◌≡◌, length, sym, ◌∙◌, ap, subst, arith}
+use Rattle.std.proofs.Common.{◌≡◌, length, subst, arith}
 use Rattle.ride_index.proofs.FromPlace.{FromZones, next_zone}
 use Rattle.ride_index.proofs.OfferLists.{gains_none}
 use Rattle.ride_index.specs.OfferedRuns.{GainsOffersOf}

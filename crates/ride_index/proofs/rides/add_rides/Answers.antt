@@ -1,5 +1,5 @@
 -- Where the trip runs on the day.
-use Rattle.std.proofs.Common.{◌≡◌, None, w32, w64, to_z, of_z, SFits, rules, false, sym, subst}
+use Rattle.std.proofs.Common.{◌≡◌, None, w32, w64, to_z, of_z, SFits, rules, sym, subst}
 use Rattle.std.proofs.lemmas.Int.{to_z-of_z}
 use Rattle.flex_model.specs.ServiceDay.{BeginsAt}
 use Rattle.service_days.specs.Running.{IsRunning}

@@ -1,7 +1,5 @@
 -- What stands between the two points begins at the place.
-use Rattle.std.proofs.Common.{length, get_or, arith}
-use Rattle.flex_model.proofs.Found.{none_contained}
-use Rattle.ride_index.proofs.PlaceSpans.{none_between, stands_between}
+use Rattle.ride_index.proofs.PlaceSpans.{stands_between}
 use Rattle.ride_index.proofs.spans.spans_from.Goals as goal
 
 pub returns : goal.returns

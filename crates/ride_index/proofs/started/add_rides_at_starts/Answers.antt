@@ -1,5 +1,5 @@
 -- The starts between two times are those at which rides leave and arrive in time.
-use Rattle.std.proofs.Common.{◌≡◌, Some, pos, ◌+ℤ◌, w32, w64, to_z, of_z, SFits, rules, true, sym, ◌∙◌, ap, subst}
+use Rattle.std.proofs.Common.{◌≡◌, Some, pos, ◌+ℤ◌, w32, w64, to_z, of_z, SFits, rules, sym, ◌∙◌, ap, subst}
 use Rattle.std.proofs.lemmas.Int.{to_z-of_z}
 use Rattle.flex_model.specs.Ride.{shift}
 use Rattle.flex_model.specs.ServiceDay.{BeginsAt}

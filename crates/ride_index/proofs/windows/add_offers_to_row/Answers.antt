@@ -1,10 +1,10 @@
 -- Direct time by direct time.
-use Rattle.std.proofs.Common.{◌≡◌, get_or, length, w32, w64, to_z, of_z, rules, SFits, sym, ◌∙◌, subst, arith}
+use Rattle.std.proofs.Common.{get_or, w32, w64, rules, SFits, subst, arith}
 use Rattle.std.proofs.lemmas.Int.{to_z-of_z}
 use Rattle.std.proofs.lemmas.Option.{slice_get-get_or}
 use Rattle.flex_model.specs.declared.place.Place.TheVariants as place
 use Rattle.flex_model.specs.declared.times.Span.{Span}
-use Rattle.ride_index.specs.Legs.{IsPlacesRide, to_place}
+use Rattle.ride_index.specs.Legs.{IsPlacesRide}
 use Rattle.ride_index.specs.OfferedRuns.{GainsOffersOf}
 use Rattle.ride_index.proofs.WindowOffers.{all_spans, leg_to_place, listed_spans, next_span}
 use Rattle.ride_index.proofs.windows.add_offers_to_row.Goals as goal
