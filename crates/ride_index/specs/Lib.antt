@@ -1,5 +1,4 @@
 pub mod ActiveDays
-pub mod Boardings
 pub mod Departures
 pub mod Index
 pub mod Legs

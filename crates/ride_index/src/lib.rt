@@ -3,7 +3,6 @@
 
 mod active_days;
 mod alightings;
-mod boarded;
 mod boardings;
 mod departure;
 mod departures;
@@ -22,7 +21,6 @@ mod wanted;
 mod windows;
 
 pub use active_days::ActiveDays;
-pub use boarded::{Boarded, Boarding};
 pub use departure::{Departure, DepartureKind};
 pub use departures::DepartureList;
 pub use index::RideIndex;
