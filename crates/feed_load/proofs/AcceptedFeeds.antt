@@ -1,26 +1,25 @@
--- The tables and the feed of an accepted folder without locations.geojson.
-use Rattle.std.proofs.Common.{◌≡◌, List, [], All, None, get_or, refl, sym, ◌∙◌, ap, subst, arith, lit<}
-use Rattle.std.proofs.lemmas.List.Elements.{All-nil}
+-- The tables and the feed of an accepted folder.
+use Rattle.std.proofs.Common.{◌≡◌, List, [], None, get_or, map, refl, sym, ◌∙◌, ap, subst, lit<}
+use Rattle.std.proofs.lemmas.Simd.{map-map}
 use Rattle.flex_model.specs.declared.fault.FaultCode.TheVariants as code
 use Rattle.flex_model.specs.declared.fault.InputFile.{InputFile}
 use Rattle.flex_model.specs.declared.fault.InputFile.TheVariants.{Agency, Stops, Routes, Trips, StopTimes, Calendar, CalendarDates, Locations, LocationGroups, LocationGroupStops, BookingRules, Transfers, Frequencies, ZoneText, ZoneTzif, Points, Direct, Walks, Queries}
-use Rattle.flex_model.specs.SoundFeed.{IsSoundFeed, IsSoundPolygon}
-use Rattle.feed_meaning.specs.FeedFaults.{Feature, feed_faults, features_in, tables}
+use Rattle.flex_model.specs.SoundFeed.{IsSoundFeed}
+use Rattle.flex_model.specs.SoundTimes.{AreIds}
+use Rattle.flex_model.specs.declared.place.Stop.{Stop}
+use Rattle.flex_model.specs.declared.place.Zone.{Zone}
+use Rattle.feed_meaning.specs.FeedFaults.{Feature, Geo, feature_entry, feed_faults, features, tables}
 use Rattle.feed_meaning.specs.FeedLinks.{Tables}
-use Rattle.feed_meaning.specs.FeedValue.{feed_of, feed_of_tables}
+use Rattle.feed_meaning.specs.FeedValue.{feed_of, feed_of_tables, stop_of, zone_of}
 use Rattle.feed_meaning.specs.Folder.{Folder}
-use Rattle.feed_meaning.specs.Rules.{is_empty}
-use Rattle.feed_meaning.specs.Soundness.{GivesSoundFeatures}
+use Rattle.feed_meaning.specs.Rules.{Values, is_empty}
+use Rattle.feed_meaning.specs.Tables.{Entry}
 use Rattle.feed_meaning.proofs.Kept.{is_kept}
 use Rattle.feed_meaning.proofs.KeptFeeds.{KeepsFeedRules, feed_keeps}
-use Rattle.feed_meaning.proofs.NamedLists.{filled_is_given, kept_ids, no_ids}
-use Rattle.feed_meaning.proofs.SoundFeeds.{accepted_feeds}
+use Rattle.feed_meaning.proofs.NamedLists.{filled_is_given, kept_ids}
 use Rattle.feed_meaning.proofs.SoundLists as Ids
-use Rattle.feed_rules.specs.Levels.{LacksLocations}
-use Rattle.feed_rules.proofs.KeptTables.{no_zones}
-use Rattle.feed_load.specs.FeedTables.{AreAcceptedTables, tables_of}
+use Rattle.feed_load.specs.FeedTables.{AreAcceptedTables, tables_of, zone_features}
 use Rattle.feed_load.specs.Judged.{HaveRecords}
-use Rattle.feed_load.specs.Loads.{no_geo}
 use Rattle.feed_load.specs.declared.tables.FeedTables.{FeedTables}
 use Rattle.feed_load.proofs.BookingRecords.{counts_kept}
 use Rattle.feed_load.proofs.KeptChanges.{sound_changes}
@@ -47,12 +46,13 @@ unfolding fed
 feed-fed t zones = refl
 
 -- tables that keep the rules of a feed are accepted
-kept-accepted : (t : Tables) → KeepsFeedRules t → AreAcceptedTables (fed t)
+kept-accepted : (t : Tables) → AreIds (map (λ r. r "id") (t Locations)) → KeepsFeedRules t → AreAcceptedTables (fed t)
 unfolding fed
-kept-accepted t kept =
+kept-accepted t zones kept =
     let changes = sound_changes t kept in
     record {
       stop_ids = kept_ids "stop_id" (t Stops) (Ids.stop_ids (t Stops) kept.stops.alone);
+      zone_ids = zones;
       group_ids = kept_ids "location_group_id" (t LocationGroups) (Ids.group_ids (t LocationGroups) kept.groups.alone);
       booking_rule_ids = kept_ids "booking_rule_id" (t BookingRules) (Ids.booking_rule_ids (t BookingRules) kept.booking_rules.alone);
       trip_ids = kept_ids "trip_id" (t Trips) (Ids.trip_ids (t Trips) kept.trips.alone);
@@ -64,19 +64,16 @@ kept-accepted t kept =
       changes = record { seconds = changes.seconds; ordered = changes.ordered };
     }
 
--- a feed without zones is sound where it is accepted
-gives-none : GivesSoundFeatures no_geo
-gives-none = record {
-  few = λ bytes none. omega arith;
-  ids = λ bytes none. no_ids;
-  polygons = λ bytes none. All-nil (λ (f : Feature). All IsSoundPolygon f.polygons);
-}
+-- the ids of features
+zone_ids : (stops : List Stop) (features : List Feature) → AreIds (map (λ z. z.id) (map (zone_of stops) features)) → AreIds (map (λ r. r "id") (map (λ e. e.values) (map feature_entry features)))
+zone_ids stops features ids =
+    subst AreIds
+    (map-map (λ (z : Zone). z.id) (zone_of stops) features
+    ∙ sym (map-map (λ (r : Values). r "id") (λ (e : Entry). e.values) (map feature_entry features) ∙ map-map (λ (e : Entry). e.values "id") feature_entry features))
+    ids
 
-pub sound : (folder : Folder) → feed_faults no_geo folder ≡ [] → IsSoundFeed (feed_of no_geo folder)
-sound folder none = accepted_feeds no_geo folder gives-none none
-
-module _ (folder : Folder) (lacks : LacksLocations folder) (t : FeedTables) (have : HaveRecords t (tables no_geo folder)) where
-  tables-same : (file : InputFile) → fed (tables no_geo folder) file ≡ tables_of t file
+module _ (geo : Geo) (folder : Folder) (t : FeedTables) (have : HaveRecords t (tables geo folder) (features geo folder)) where
+  tables-same : (file : InputFile) → fed (tables geo folder) file ≡ tables_of t file
   unfolding fed
   tables-same Agency = refl
   tables-same Stops = have.stops
@@ -85,7 +82,7 @@ module _ (folder : Folder) (lacks : LacksLocations folder) (t : FeedTables) (hav
   tables-same StopTimes = have.stop_times
   tables-same Calendar = have.calendar
   tables-same CalendarDates = have.dates
-  tables-same Locations = no_zones no_geo folder lacks
+  tables-same Locations = have.zones
   tables-same LocationGroups = have.groups
   tables-same LocationGroupStops = have.group_stops
   tables-same BookingRules = have.booking_rules
@@ -98,14 +95,15 @@ module _ (folder : Folder) (lacks : LacksLocations folder) (t : FeedTables) (hav
   tables-same Walks = refl
   tables-same Queries = refl
 
-  all-same : fed (tables no_geo folder) ≡ tables_of t
+  all-same : fed (tables geo folder) ≡ tables_of t
   all-same = λ k file. tables-same file k
 
-  pub tables_accepted : feed_faults no_geo folder ≡ [] → AreAcceptedTables (tables_of t)
-  tables_accepted none = subst AreAcceptedTables all-same (kept-accepted (tables no_geo folder) (feed_keeps no_geo folder none))
+  pub tables_accepted : IsSoundFeed (feed_of geo folder) → feed_faults geo folder ≡ [] → AreAcceptedTables (tables_of t)
+  tables_accepted sound none =
+      subst AreAcceptedTables all-same (kept-accepted (tables geo folder) (zone_ids (map stop_of (tables geo folder Stops)) (features geo folder) sound.zones.ids) (feed_keeps geo folder none))
 
-  -- the feed of the tables is that of the folder
-  pub feed_is : feed_of_tables (tables_of t) [] ≡ feed_of no_geo folder
+  -- the feed of the tables and zones is that of the folder
+  pub feed_is : feed_of_tables (tables_of t) (zone_features t.zones) ≡ feed_of geo folder
   feed_is =
-      ap (λ x. feed_of_tables x []) (sym all-same) ∙ sym (feed-fed (tables no_geo folder) [])
-      ∙ ap (feed_of_tables (tables no_geo folder)) (sym (ap (features_in no_geo) lacks.locations))
+      ap (λ x. feed_of_tables x (zone_features t.zones)) (sym all-same) ∙ sym (feed-fed (tables geo folder) (zone_features t.zones))
+      ∙ ap (feed_of_tables (tables geo folder)) (sym have.features)

@@ -24,5 +24,7 @@ pub mod NamedIds
 pub mod FeedLists
 pub mod FoundTables
 pub mod AcceptedFeeds
+pub mod BestScans
+pub mod ZoneLists
 pub mod FetchedFolders
 pub mod Loading

@@ -6,14 +6,16 @@ use Rattle.flex_model.specs.declared.fault.InputFile.{InputFile}
 use Rattle.flex_model.specs.declared.fault.InputFile.TheVariants.{Agency, Stops, Routes, Trips, StopTimes, Calendar, CalendarDates, Locations, LocationGroups, LocationGroupStops, BookingRules, Transfers, Frequencies, ZoneText, ZoneTzif, Points, Direct, Walks, Queries}
 use Rattle.flex_model.specs.declared.fault.RawFile.{RawFile}
 use Rattle.flex_model.specs.declared.fault.RawFile.TheVariants.{Absent}
-use Rattle.feed_meaning.specs.FeedFaults.{feed_files}
+use Rattle.feed_meaning.specs.FeedFaults.{Geo, feed_files}
 use Rattle.feed_meaning.specs.Folder.{Folder}
+use Rattle.feed_meaning.specs.Locations.{Scan, zones_of}
 use Rattle.feed_meaning.specs.Told.{told_folder}
 use Rattle.feed_rules.specs.Folders.{folder_of}
+use Rattle.feed_rules.specs.Zones.{ScansFolder}
 use Rattle.feed_load.specs.Fetched.{told_feed}
-use Rattle.feed_load.specs.Loads.{IsLoaded}
+use Rattle.feed_load.specs.Loads.{IsLoaded, IsLoadedBy}
 use Rattle.feed_load.specs.declared.folder.Loaded.{Loaded}
-use Rattle.feed_load.specs.declared.folder.Loaded.TheVariants.{Clean, Faulty, Unbuilt}
+use Rattle.feed_load.specs.declared.folder.Loaded.TheVariants.{Clean, Faulty}
 
 -- the files of a feed alone
 of_feed : Folder → Folder
@@ -57,15 +59,19 @@ fetched-same f Queries = refl
 fetched-all : (f : Folder) → folder_of (map f feed_files) ≡ of_feed f
 fetched-all f = λ k file. fetched-same f file k
 
-by-answer : (f : Folder) (loaded : Loaded) → IsLoaded (of_feed f) loaded → IsLoaded f loaded
+scans-same : (scan : List ℕ → Scan) (f : Folder) → ScansFolder scan f → ScansFolder scan (of_feed f)
 unfolding of_feed
-by-answer f (Clean feed) h = (h.0, h.1, h.2)
-by-answer f (Faulty faults) h = (h.0, h.1, h.2)
-by-answer f Unbuilt h = h
+scans-same scan f scans = record { scans = scans.scans }
+
+by-answer : (geo : Geo) (f : Folder) (loaded : Loaded) → IsLoadedBy geo (of_feed f) loaded → IsLoadedBy geo f loaded
+unfolding of_feed
+by-answer geo f (Clean feed) h = (h.0, h.1)
+by-answer geo f (Faulty faults) h = (h.0, h.1)
 
 told_loaded : (told : FileMap) (folder : List ℕ) (raws : List RawFile) (loaded : Loaded) → raws ≡ told_feed told folder → IsLoaded (folder_of raws) loaded → IsLoaded (told_folder told folder) loaded
 told_loaded told folder raws loaded same h =
-    by-answer (told_folder told folder) loaded (subst (λ f. IsLoaded f loaded) (ap folder_of same ∙ fetched-all (told_folder told folder)) h)
+    let of : IsLoaded (of_feed (told_folder told folder)) loaded = subst (λ f. IsLoaded f loaded) (ap folder_of same ∙ fetched-all (told_folder told folder)) h in
+    λ scan scans. by-answer (zones_of scan) (told_folder told folder) loaded (of scan (scans-same scan (told_folder told folder) scans))
 
 -- it is loaded of the told folder, where the files tell what they hold
 pub told_answer : (o : Option FileMap) (folder : List ℕ) (raws : List RawFile) (loaded : Loaded) → IfSome o (λ told. raws ≡ told_feed told folder) → IsLoaded (folder_of raws) loaded

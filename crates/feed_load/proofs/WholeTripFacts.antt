@@ -54,7 +54,7 @@ number-is text None is some = absurd (false≢true some)
 number-is text (Some n) is some = sym (count_is 4294967294 text n is).1
 
 module _ (tables : Tables) (ids : FeedIds) (stops : ids.stops ≡ map (λ s. s "stop_id") (tables Stops)) (groups : ids.groups ≡ map (λ s. s "location_group_id") (tables LocationGroups))
-    (booking_rules : ids.booking_rules ≡ map (λ s. s "booking_rule_id") (tables BookingRules)) (no_zones : tables Locations ≡ []) where
+    (booking_rules : ids.booking_rules ≡ map (λ s. s "booking_rule_id") (tables BookingRules)) (zones : ids.zones ≡ map (λ s. s "id") (tables Locations)) where
   stop-is : (text : List ℕ) → place_among ids.stops text ≡ index_in tables Stops "stop_id" text
   stop-is text = ap (λ xs. place_among xs text) stops ∙ sym (index_in-position tables Stops "stop_id" text)
 
@@ -64,13 +64,13 @@ module _ (tables : Tables) (ids : FeedIds) (stops : ids.stops ≡ map (λ s. s "
   rule-is : (text : List ℕ) → place_among ids.booking_rules text ≡ index_in tables BookingRules "booking_rule_id" text
   rule-is text = ap (λ xs. place_among xs text) booking_rules ∙ sym (index_in-position tables BookingRules "booking_rule_id" text)
 
-  zone-is : (text : List ℕ) → 0 ≡ index_in tables Locations "id" text
-  zone-is text = sym (index_in-position tables Locations "id" text ∙ ap (λ ss. place_among (map (λ (s : Values). s "id") ss) text) no_zones)
+  zone-is : (text : List ℕ) → place_among ids.zones text ≡ index_in tables Locations "id" text
+  zone-is text = ap (λ xs. place_among xs text) zones ∙ sym (index_in-position tables Locations "id" text)
 
-  spot-is : (r : Values) → spot_among ids.stops ids.groups (r "stop_id") (r "location_group_id") ≡ spot_of tables r
+  spot-is : (r : Values) → spot_among ids (r "stop_id") (r "location_group_id") (r "location_id") ≡ spot_of tables r
   spot-is r =
-      ap (λ n. if is_given (r "stop_id") then spot.Stop n else if is_given (r "location_group_id") then spot.Group (place_among ids.groups (r "location_group_id")) else spot.Zone 0) (stop-is (r "stop_id"))
-      ∙ ap (λ n. if is_given (r "stop_id") then spot.Stop (index_in tables Stops "stop_id" (r "stop_id")) else if is_given (r "location_group_id") then spot.Group n else spot.Zone 0) (group-is (r "location_group_id"))
+      ap (λ n. if is_given (r "stop_id") then spot.Stop n else if is_given (r "location_group_id") then spot.Group (place_among ids.groups (r "location_group_id")) else spot.Zone (place_among ids.zones (r "location_id"))) (stop-is (r "stop_id"))
+      ∙ ap (λ n. if is_given (r "stop_id") then spot.Stop (index_in tables Stops "stop_id" (r "stop_id")) else if is_given (r "location_group_id") then spot.Group n else spot.Zone (place_among ids.zones (r "location_id"))) (group-is (r "location_group_id"))
       ∙ ap (λ n. if is_given (r "stop_id") then spot.Stop (index_in tables Stops "stop_id" (r "stop_id"))
       else if is_given (r "location_group_id") then spot.Group (index_in tables LocationGroups "location_group_id" (r "location_group_id")) else spot.Zone n) (zone-is (r "location_id"))
 
@@ -86,7 +86,7 @@ module _ (tables : Tables) (ids : FeedIds) (stops : ids.stops ≡ map (λ s. s "
       → row_with (draft_of ids r) times ≡ row_of tables r
   unfolding made
   row-made r times numbered timed =
-      let spot = spot_among ids.stops ids.groups (r "stop_id") (r "location_group_id") in
+      let spot = spot_among ids (r "stop_id") (r "location_group_id") (r "location_id") in
       let own = if has_window r then timing.Window (seconds (r "start_pickup_drop_off_window")) (seconds (r "end_pickup_drop_off_window")) else timing.Times (arrival times) (departure times) in
       let pickup = way_among ids.booking_rules (has_window r) (r "pickup_type") (r "pickup_booking_rule_id") in
       let drop_off = way_among ids.booking_rules (has_window r) (r "drop_off_type") (r "drop_off_booking_rule_id") in
@@ -220,7 +220,7 @@ module _ (of_trips of_stop_times : List (List (List ℕ))) (of_frequencies : Opt
       let pairs = strictly ids o.items whole.sorted o.values (AllPairs-permutation Ordered turned xs o.items o.moved (kept.ordered (r "trip_id"))) whole.rising in
       let in_order : o.items ≡ rising is_before xs = sym (rising-unique is_before before_irreflexive before_asymmetric xs o.items o.moved pairs) in
       let rows : t.rows ≡ map (row_of tables) (rising is_before xs) =
-      rows-are tables ids of.named.stops of.named.groups of.named.booking_rules of.no_zones kept (r "trip_id") o.items o.moved pairs t.rows (subst (λ ds. AreRowsOf ds t.rows) (sym o.values) whole.rows)
+      rows-are tables ids of.named.stops of.named.groups of.named.booking_rules of.named.zones kept (r "trip_id") o.items o.moved pairs t.rows (subst (λ ds. AreRowsOf ds t.rows) (sym o.values) whole.rows)
       ∙ ap (map (row_of tables)) in_order in
       let service : t.service ≡ service_index tables (r "service_id") = whole.service ∙ ap (λ xs. place_among xs (r "service_id")) of.named.services in
       let frequent : t.frequent ≡ is_in tables Frequencies "trip_id" (r "trip_id") = whole.frequent ∙ some_kept read_repeat (λ s. bytes_eq (r "trip_id") (s "trip_id")) (tables Frequencies) in

@@ -18,12 +18,12 @@ use Rattle.feed_load.specs.declared.drafts.DraftColumns.{DraftColumns}
 use Rattle.feed_load.specs.declared.named_ids.FeedIds.{FeedIds}
 use Rattle.feed_load.specs.declared.linear_times.GivenRow.{GivenRow}
 
--- a stop or a group by its text, else the first zone
-abbrev pub spot_among : List (List ℕ) → List (List ℕ) → List ℕ → List ℕ → Spot
-spot_among stop_ids group_ids stop group =
-    if is_given stop then spot.Stop (place_among stop_ids stop)
-    else if is_given group then spot.Group (place_among group_ids group)
-    else spot.Zone 0
+-- a stop or a group by its text, else a zone
+abbrev pub spot_among : FeedIds → List ℕ → List ℕ → List ℕ → Spot
+spot_among ids stop group location =
+    if is_given stop then spot.Stop (place_among ids.stops stop)
+    else if is_given group then spot.Group (place_among ids.groups group)
+    else spot.Zone (place_among ids.zones location)
 
 -- how one boards or alights by the type and the booking rule, beside a window or not
 abbrev pub way_among : List (List ℕ) → Bool → List ℕ → List ℕ → Way
@@ -45,7 +45,7 @@ given_of r = record {
 abbrev pub draft_of : FeedIds → Values → Draft
 draft_of ids r = record {
   sequence = unwrap_or (stop_sequence (r "stop_sequence")) 0;
-  «spot» = spot_among ids.stops ids.groups (r "stop_id") (r "location_group_id");
+  «spot» = spot_among ids (r "stop_id") (r "location_group_id") (r "location_id");
   start = seconds (r "start_pickup_drop_off_window");
   end = seconds (r "end_pickup_drop_off_window");
   given = given_of r;
@@ -74,6 +74,7 @@ draft_columns header = record {
   sequence = column_named header "stop_sequence";
   stop = column_named header "stop_id";
   group = column_named header "location_group_id";
+  location = column_named header "location_id";
   arrival = column_named header "arrival_time";
   departure = column_named header "departure_time";
   start = column_named header "start_pickup_drop_off_window";
@@ -93,7 +94,8 @@ abbrev pub draft_at : FeedIds → DraftColumns → List (List ℕ) → Draft
 draft_at ids columns fields = record {
   sequence = unwrap_or (stop_sequence (text_at fields columns.sequence)) 0;
   «spot» =
-      spot_among ids.stops ids.groups (text_at fields columns.stop) (text_at fields columns.group);
+      spot_among ids (text_at fields columns.stop) (text_at fields columns.group)
+      (text_at fields columns.location);
   start = seconds (text_at fields columns.start);
   end = seconds (text_at fields columns.end);
   given = record {

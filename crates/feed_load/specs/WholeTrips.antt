@@ -1,10 +1,10 @@
 -- The trips of the feed of a folder without locations.geojson, and how they come of the records of
 -- the tables.
-use Rattle.std.specs.Prelude.{◌≡◌, ◌⊎◌, ℕ, ◌==◌, true, false, not, ◌<◌, IsSome, List, [], All, AllPairs, Option, IsPermutation, filter, get_or, length, map}
+use Rattle.std.specs.Prelude.{◌≡◌, ◌⊎◌, ℕ, ◌==◌, true, false, not, ◌<◌, IsSome, List, All, AllPairs, Option, IsPermutation, filter, get_or, length, map}
 use Rattle.std.specs.Borrow.{Bor}
 use Rattle.std.specs.List.Sorted.{IsNonDecreasingBy}
 use Rattle.std.specs.Str.{bytes_eq}
-use Rattle.flex_model.specs.declared.fault.InputFile.TheVariants.{Trips, StopTimes, Locations, Frequencies}
+use Rattle.flex_model.specs.declared.fault.InputFile.TheVariants.{Trips, StopTimes, Frequencies}
 use Rattle.flex_model.specs.declared.trip.Row.{Row}
 use Rattle.flex_model.specs.declared.trip.Trip.{Trip}
 use Rattle.field_text.specs.Grammars.{time}
@@ -34,8 +34,7 @@ pub record AreTripRecords (stop_times : List Values) : Type 0 where
       → AllPairs (λ a b. (is_before a b ≡ true) ⊎ (is_before b a ≡ true))
       (filter (λ s. bytes_eq trip (s "trip_id")) stop_times)
 
--- the tables' records are those of the files, the ids stand for the records that trips name, and
--- there are no zones
+-- the tables' records are those of the files, and the ids stand for the records that trips name
 pub record AreTripTables (of_trips of_stop_times : List (List (List ℕ)))
     (of_frequencies : Option (Bor (List (List (List ℕ)))))
     (ids : FeedIds) (tables : Tables) : Type 0 where
@@ -43,7 +42,6 @@ pub record AreTripTables (of_trips of_stop_times : List (List (List ℕ)))
   pub stop_times : tables StopTimes ≡ values_in of_stop_times
   pub frequencies : tables Frequencies ≡ records_in of_frequencies
   pub named : AreIdsOf ids tables
-  pub no_zones : tables Locations ≡ []
 
 -- ---- a trip with its records in order
 

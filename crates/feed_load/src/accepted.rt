@@ -1,41 +1,44 @@
 // The tables of an accepted folder, or the faults of another.
 
-ghost use Rattle.std.specs.Prelude.{◌≡◌, [], IfOk};
+ghost use Rattle.std.specs.Prelude.{◌≡◌, ℕ, List, [], IfOk};
 ghost use Rattle.feed_meaning.specs.FeedFaults.{feed_faults};
 ghost use Rattle.feed_meaning.specs.Folder.{Folder};
+ghost use Rattle.feed_meaning.specs.Locations.{Scan, zones_of};
 ghost use Rattle.feed_rules.specs.Folders.{ReadsFolder};
-ghost use Rattle.feed_rules.specs.Levels.{LacksLocations};
+ghost use Rattle.feed_rules.specs.Zones.{ScansFolder};
 ghost use Rattle.feed_load.specs.Judged.{AreFound, IsJudged};
-ghost use Rattle.feed_load.specs.Loads.{no_geo};
 
 use crate::tables::FeedTables;
 use feed_rules::{RawFeed, faults};
 use flex_model::{Fault, InputFile, Listed, NoMemory};
+use geo_json::features_are_few;
 use std::alloc::Global;
 
-/// What a folder without locations.geojson is found to be.
+/// What a folder is found to be.
 #[derive(Drop)]
 pub(crate) enum Judged<'a> {
-    /// It has no faults, and has these tables.
+    /// It has no faults, and has these tables and zones.
     Accepted(FeedTables<'a>),
     /// It has these faults.
     Faulty(Listed<Fault>),
 }
 
-// The tables that a feed is read from. A folder without faults has those that are needed.
+// The tables and zones that a feed is read from. A folder without faults has those that are needed.
 fn found_tables(raw: &RawFeed) -> Option<FeedTables<'_>>
-    ensures { (folder : Folder) → ReadsFolder raw.now folder → LacksLocations folder
-        → feed_faults no_geo folder ≡ [] → AreFound folder result }
+    ensures { (scan : List ℕ → Scan) (folder : Folder) → ReadsFolder raw.now folder
+        → ScansFolder scan folder → feed_faults (zones_of scan) folder ≡ []
+        → AreFound (zones_of scan) folder result }
 {
-    let stops = raw.table(InputFile::Stops)?;
+    features_are_few();
     let trips = raw.table(InputFile::Trips)?;
     let stop_times = raw.table(InputFile::StopTimes)?;
     Some(FeedTables {
-        stops,
+        stops: raw.table(InputFile::Stops),
         trips,
         stop_times,
         calendar: raw.table(InputFile::Calendar),
         dates: raw.table(InputFile::CalendarDates),
+        zones: raw.zones(),
         groups: raw.table(InputFile::LocationGroups),
         group_stops: raw.table(InputFile::LocationGroupStops),
         booking_rules: raw.table(InputFile::BookingRules),
@@ -46,8 +49,9 @@ fn found_tables(raw: &RawFeed) -> Option<FeedTables<'_>>
 
 /// Judges a folder by its tables: the tables where it has no faults, else its fault list.
 pub(crate) fn judge(alloc: Global, raw: &RawFeed) -> Result<Judged<'_>, NoMemory>
-    ensures { IfOk result (λ judged. (folder : Folder)
-        → ReadsFolder raw.now folder → LacksLocations folder → IsJudged folder judged) }
+    ensures { IfOk result (λ judged. (scan : List ℕ → Scan) (folder : Folder)
+        → ReadsFolder raw.now folder → ScansFolder scan folder
+        → IsJudged (zones_of scan) folder judged) }
 {
     let found = faults(alloc, raw)?;
     if !found.is_empty() {

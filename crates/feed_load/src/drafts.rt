@@ -21,6 +21,7 @@ pub(crate) struct DraftColumns {
     sequence: Option<u32>,
     stop: Option<u32>,
     group: Option<u32>,
+    location: Option<u32>,
     arrival: Option<u32>,
     departure: Option<u32>,
     start: Option<u32>,
@@ -52,6 +53,7 @@ pub(crate) fn draft_columns(table: &Table) -> DraftColumns
         sequence: table.column("stop_sequence"),
         stop: table.column("stop_id"),
         group: table.column("location_group_id"),
+        location: table.column("location_id"),
         arrival: table.column("arrival_time"),
         departure: table.column("departure_time"),
         start: table.column("start_pickup_drop_off_window"),
@@ -77,16 +79,16 @@ fn place_among(ids: &Ids<'_>, text: &str) -> u32
     ids.index_of(text).unwrap_or(0)
 }
 
-// What a record names: a stop or a group, else the first zone.
-fn spot_of(stop: &str, group: &str, ids: &FeedIds<'_>) -> Spot
-    ensures { result ≡ Drafted.spot_among ids.now.stops ids.now.groups stop.now group.now }
+// What a record names: a stop or a group, else a zone.
+fn spot_of(stop: &str, group: &str, location: &str, ids: &FeedIds<'_>) -> Spot
+    ensures { result ≡ Drafted.spot_among ids.now stop.now group.now location.now }
 {
     if is_given(stop) {
         Spot::Stop(place_among(&ids.stops, stop))
     } else if is_given(group) {
         Spot::Group(place_among(&ids.groups, group))
     } else {
-        Spot::Zone(0)
+        Spot::Zone(place_among(&ids.zones, location))
     }
 }
 
@@ -111,6 +113,9 @@ fn way_of(kind: &str, has_window: bool, rule: &str, rules: &Ids<'_>) -> Way
 pub(crate) fn draft_of(row: &RowView<'_>, columns: DraftColumns, ids: &FeedIds<'_>) -> Draft
     ensures { result ≡ draft_at ids.now columns row.now.fields }
 {
+    let stop = value(row, columns.stop);
+    let group = value(row, columns.group);
+    let location = value(row, columns.location);
     let start = value(row, columns.start);
     let end = value(row, columns.end);
     let has_window = is_given(start) || is_given(end);
@@ -119,7 +124,7 @@ pub(crate) fn draft_of(row: &RowView<'_>, columns: DraftColumns, ids: &FeedIds<'
     let rules = &ids.booking_rules;
     Draft {
         sequence: sequence_of(value(row, columns.sequence)),
-        spot: spot_of(value(row, columns.stop), value(row, columns.group), ids),
+        spot: spot_of(stop, group, location, ids),
         start: time(start).unwrap_or(0),
         end: time(end).unwrap_or(0),
         given: GivenRow {

@@ -11,7 +11,8 @@ use crate::feed::feed_of;
 use crate::fetch::fetch_feed;
 use feed_rules::{FeedBytes, RawFeed};
 use flex_io::{Files, LoadError};
-use flex_model::{Fault, Feed, InputFile, Listed, NoMemory};
+use flex_model::{Fault, Feed, Listed, NoMemory};
+use geo_json::{features_are_few, texts_have_scans};
 use std::alloc::Global;
 
 /// What a feed folder holds.
@@ -21,8 +22,6 @@ pub enum Loaded {
     Clean(Feed),
     /// The fault list of a folder that isn't accepted.
     Faulty(Listed<Fault>),
-    /// The folder has locations.geojson, which isn't read yet.
-    Unbuilt,
 }
 
 // What the files of a feed hold.
@@ -30,9 +29,8 @@ fn read_folder(alloc: Global, bytes: &FeedBytes) -> Result<Loaded, NoMemory>
     ensures loaded { IfOk result (IsLoaded (folder_of bytes.now)) }
     ensures sound { IfOk result IsSoundLoad }
 {
-    if !bytes.is_absent(InputFile::Locations) {
-        return Ok(Loaded::Unbuilt);
-    }
+    texts_have_scans();
+    features_are_few();
     let raw = RawFeed::read(alloc, bytes)?;
     let judged = judge(alloc, &raw)?;
     match judged {

@@ -20,6 +20,7 @@ mod tables;
 mod weekly;
 mod weeks;
 mod whole_trips;
+mod zones;
 
 pub use folder::{Loaded, load};
 pub use linear_times::{GivenRow, fill_times};

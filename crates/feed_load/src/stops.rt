@@ -4,6 +4,7 @@ ghost use Rattle.std.specs.Prelude.{◌≡◌, ◌||◌, IfOk, map};
 ghost use Rattle.feed_meaning.specs.FeedValue as Value;
 ghost use Rattle.feed_meaning.specs.FeedValue.{coordinate};
 ghost use Rattle.feed_meaning.specs.Rules;
+ghost use Rattle.feed_rules.specs.Links.{records_in};
 ghost use Rattle.feed_load.specs.TableValues.{values_in};
 
 use crate::fields::{latitude, longitude, text_of};
@@ -36,8 +37,8 @@ fn stop_of(
     })
 }
 
-/// The stops of stops.txt, in the order of the file.
-pub(crate) fn stops_of(alloc: Global, table: &Table) -> Result<Listed<Stop>, NoMemory>
+// The stops of a table, in the order of the file.
+fn stops_in(alloc: Global, table: &Table) -> Result<Listed<Stop>, NoMemory>
     ensures { IfOk result (λ stops. stops ≡ map Value.stop_of (values_in table.now)) }
 {
     let stop_id = table.column("stop_id");
@@ -53,4 +54,14 @@ pub(crate) fn stops_of(alloc: Global, table: &Table) -> Result<Listed<Stop>, NoM
         stops.push(stop_of(alloc, id, lon, lat, kind)?)?;
     }
     Ok(stops)
+}
+
+/// The stops of stops.txt in the order of the file, none where there is no such table.
+pub(crate) fn stops_of(alloc: Global, table: Option<&Table>) -> Result<Listed<Stop>, NoMemory>
+    ensures { IfOk result (λ stops. stops ≡ map Value.stop_of (records_in table.entry)) }
+{
+    match table {
+        Some(table) => stops_in(alloc, table),
+        None => Ok(Listed::new(alloc)),
+    }
 }

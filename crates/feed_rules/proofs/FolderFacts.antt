@@ -3,6 +3,7 @@ use Rattle.std.proofs.Common.{◌≡◌, true}
 use Rattle.flex_model.specs.declared.fault.InputFile.{InputFile}
 use Rattle.flex_model.specs.declared.fault.InputFile.TheVariants.{Agency, Stops, Routes, Trips, StopTimes, Calendar, CalendarDates, Locations, LocationGroups, LocationGroupStops, BookingRules, Transfers, Frequencies}
 use Rattle.feed_meaning.specs.Folder.{Folder}
+use Rattle.feed_meaning.specs.Told.{IsWithin}
 use Rattle.feed_rules.specs.Folders.{ReadsFolder, found_of, is_feed_table}
 use Rattle.feed_rules.specs.Found.{IsFound}
 use Rattle.feed_rules.specs.Zones.{AreFoundZones}
@@ -18,6 +19,7 @@ pub record ReadsEach (raw : RawFeed) (folder : Folder) : Type 0 where
   pub calendar : IsFound (folder Calendar) raw.calendar
   pub calendar_dates : IsFound (folder CalendarDates) raw.calendar_dates
   pub zones : AreFoundZones (folder Locations) raw.zones
+  pub counted : IsWithin 4294967295 (folder Locations)
   pub location_groups : IsFound (folder LocationGroups) raw.location_groups
   pub location_group_stops : IsFound (folder LocationGroupStops) raw.location_group_stops
   pub booking_rules : IsFound (folder BookingRules) raw.booking_rules
@@ -40,4 +42,4 @@ tables_are raw folder each Frequencies e = each.frequencies
 tables_are raw folder each file e = cc
 
 pub reads_each : (raw : RawFeed) (folder : Folder) → ReadsEach raw folder → ReadsFolder raw folder
-reads_each raw folder each = record { tables = tables_are raw folder each; zones = each.zones }
+reads_each raw folder each = record { tables = tables_are raw folder each; zones = each.zones; counted = each.counted }

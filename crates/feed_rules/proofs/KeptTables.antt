@@ -1,5 +1,5 @@
--- Where the tables have no faults by themselves, those that were read have the records of the folder.
-use Rattle.std.proofs.Common.{◌≡◌, ℕ, ◌+◌, Bool, true, false, ◌&&◌, List, [], ◌∷◌, Option, Some, None, length, map, refl, sym, ◌∙◌, ap, arith}
+-- Where the files have no faults by themselves, the tables and zones that were read have the records of the folder.
+use Rattle.std.proofs.Common.{◌≡◌, ◌≢◌, ℕ, ◌+◌, ◌<◌, get_or, subst, Bool, true, false, ◌&&◌, List, [], ◌∷◌, Option, Some, None, length, map, refl, sym, ◌∙◌, ap, arith}
 use Rattle.std.specs.Prelude.{◌==◌, if◌then◌else◌}
 use Rattle.std.specs.Borrow.{Bor}
 use Rattle.std.specs.List.{flat_map}
@@ -11,24 +11,34 @@ use Rattle.feed_tables.specs.declared.refusal.TableRefusal.{TableRefusal}
 use Rattle.feed_tables.specs.declared.refusal.TableRefusal.TheVariants as refusal
 use Rattle.flex_model.specs.declared.fault.Fault.{Fault}
 use Rattle.flex_model.specs.declared.fault.InputFile.{InputFile}
-use Rattle.flex_model.specs.declared.fault.InputFile.TheVariants.{Agency, Stops, Routes, Trips, StopTimes, Calendar, CalendarDates, Locations, LocationGroups, LocationGroupStops, BookingRules, Transfers, Frequencies}
+use Rattle.flex_model.specs.declared.fault.InputFile.TheVariants.{Locations}
 use Rattle.flex_model.specs.declared.fault.RawFile.{RawFile}
 use Rattle.flex_model.specs.declared.fault.RawFile.TheVariants as raw_file
-use Rattle.feed_meaning.specs.FeedFaults.{Geo, feature_entry, feed_level_two, features_in, first_list, link_faults, links_of, tables}
+use Rattle.feed_meaning.specs.FeedFaults.{Geo, feature_entry, feed_entries, features_in, first_list, link_faults, tables}
+use Rattle.feed_meaning.specs.FeedLinks.{location_links}
+use Rattle.feed_meaning.specs.Locations.{repeated}
 use Rattle.feed_meaning.specs.Folder.{Folder, bytes_of, entries, has_no_record, may_be_blank}
 use Rattle.feed_meaning.specs.Rules.{Values}
-use Rattle.feed_meaning.specs.Tables.{entries_of, faults_at, refusal_fault}
+use Rattle.feed_meaning.specs.Tables.{entries_of, fault, faults_at, refusal_fault}
 use Rattle.feed_meaning.proofs.Blanks.{no_header_is_blank}
-use Rattle.feed_meaning.proofs.Kept.{or-not, refusal-not}
+use Rattle.feed_meaning.proofs.Kept.{nil_from_map, or-not, refusal-not}
 use Rattle.feed_meaning.proofs.OnLiterals.{feed_on_literals}
-use Rattle.feed_rules.specs.Folders.{ReadsFolder, accepted_records, found_of, is_feed_table, raw_table, table_of}
+use Rattle.feed_rules.specs.Folders.{ReadsFolder, accepted_records, found_of, found_zones, is_feed_table, raw_table, table_of}
 use Rattle.feed_rules.specs.Found.{IsFound, found_faults, missing_fault}
-use Rattle.feed_rules.specs.Levels.{LacksLocations, feed_tables, level_one, needs}
+use Rattle.feed_rules.specs.Levels.{level_one, needs}
+use Rattle.feed_rules.specs.Zones.{AreFoundZones, HaveZoneIds, TellsZones, held, zone_entry, zone_faults, zone_values, zones_in}
+use Rattle.geo_json.specs.Zones.{feature_in}
+use Rattle.geo_json.specs.declared.record.ZoneRecord.{ZoneRecord}
+use Rattle.feed_rules.specs.declared.zones.FoundZones.{FoundZones}
+use Rattle.feed_rules.specs.declared.zones.FoundZones.TheVariants as FoundAs
+use Rattle.feed_tables.specs.Refusals.{is_given}
+use Rattle.std.proofs.lemmas.List.{get_or-map, length-map}
+use Rattle.std.proofs.lemmas.Simd.{map-map}
 use Rattle.feed_rules.specs.Links.{records_in}
 use Rattle.feed_rules.specs.declared.folder.RawFeed.{RawFeed}
 use Rattle.feed_rules.specs.declared.found.Found.{Found}
 use Rattle.feed_rules.specs.declared.found.Found.TheVariants.{Absent, TooLarge, Refused, Read}
-use Rattle.feed_rules.proofs.LevelFacts.{flat_map-skip, no_own}
+use Rattle.feed_rules.proofs.LevelFacts.{no_own, no_zone_faults}
 
 -- no table is refused for want of memory
 refusals-not_memory : (columns place : ℕ) (records : List (List (List ℕ))) → first_refusal_from columns place records ≡ Some refusal.NoMemory → ⊥
@@ -155,15 +165,76 @@ needed raw folder reads none file e is_needed o is unread =
     (ap (λ b. found_faults file b (found_of raw file)) (sym is_needed) ∙ no_own raw none file e)
     (sym is ∙ ap (option_map (λ t. t.now)) unread)
 
-module _ (geo : Geo) (folder : Folder) (lacks : LacksLocations folder) where
-  pub no_zones : tables geo folder Locations ≡ []
-  no_zones = ap (λ r. map (λ e. e.values) (map feature_entry (features_in geo r))) lacks.locations
+pub some_zones : (a b : List ZoneRecord) → Some a ≡ Some b → a ≡ b
+some_zones a b e = cc
 
-  no_features : link_faults geo folder Locations ≡ []
-  no_features = ap (λ r. flat_map (λ e. faults_at Locations e.row (links_of Locations (tables geo folder) e.values)) (map feature_entry (features_in geo r))) lacks.locations
+filled_given : (text : List ℕ) → text ≢ [] → is_given text ≡ true
+filled_given [] given = absurd (given refl)
+filled_given (b ∷ text) given = refl
 
-  -- the faults between the files are those of the tables
-  pub level_two-exact : flat_map (link_faults geo folder) feed_tables ≡ feed_level_two geo folder
-  level_two-exact =
-      flat_map-skip (link_faults geo folder) (Agency ∷ Stops ∷ Routes ∷ Trips ∷ StopTimes ∷ Calendar ∷ CalendarDates ∷ []) Locations
-      (LocationGroups ∷ LocationGroupStops ∷ BookingRules ∷ Transfers ∷ Frequencies ∷ []) no_features
+-- the features of the file are the zones that were read
+pub features_are : (geo : Geo) (raw : RawFile) (found : FoundZones) → AreFoundZones raw found → TellsZones geo raw found → features_in geo raw ≡ (held found).features
+features_are geo raw FoundAs.Absent e tells = ap (features_in geo) e
+features_are geo raw FoundAs.TooLarge e tells = ap (features_in geo) e
+features_are geo raw (FoundAs.Refused code row) (bytes, e, refused) tells = ap (features_in geo) e ∙ ap (λ z. z.features) (tells.told bytes e)
+features_are geo raw (FoundAs.Read zones) (bytes, e, hold) tells = ap (features_in geo) e ∙ ap (λ z. z.features) (tells.told bytes e)
+
+-- the zones that were read, where they were
+zone_list : Option (List ZoneRecord) → List ZoneRecord
+zone_list None = []
+zone_list (Some zones) = zones
+
+held_zones : (found : FoundZones) → (held found).features ≡ map feature_in (zone_list (zones_in found))
+unfolding zone_list
+held_zones FoundAs.Absent = refl
+held_zones FoundAs.TooLarge = refl
+held_zones (FoundAs.Refused code row) = refl
+held_zones (FoundAs.Read zones) = refl
+
+listed_values : (o : Option (Bor (List ZoneRecord))) → map (λ e. e.values) (map zone_entry (zone_list (option_map (λ z. z.now) o))) ≡ zone_values o
+unfolding zone_list
+listed_values None = refl
+listed_values (Some zones) = refl
+
+entries_are : (zones : List ZoneRecord) → map feature_entry (map feature_in zones) ≡ map zone_entry zones
+entries_are zones = map-map feature_entry feature_in zones
+
+module _ (geo : Geo) (raw : RawFeed) (folder : Folder) (reads : ReadsFolder raw folder) (tells : TellsZones geo (folder Locations) (found_zones raw))
+    (o : Option (Bor (List ZoneRecord))) (is : option_map (λ z. z.now) o ≡ zones_in (found_zones raw)) where
+  feature_entries : feed_entries geo folder Locations ≡ map zone_entry (zone_list (option_map (λ z. z.now) o))
+  feature_entries =
+      ap (map feature_entry) (features_are geo (folder Locations) raw.zones reads.zones tells ∙ held_zones raw.zones)
+      ∙ entries_are (zone_list (zones_in raw.zones)) ∙ ap (λ z. map zone_entry (zone_list z)) (sym is)
+
+  -- the records of locations.geojson
+  pub linked_zones : tables geo folder Locations ≡ zone_values o
+  linked_zones = ap (map (λ e. e.values)) feature_entries ∙ listed_values o
+
+  zone_links_at : (p : Option (List ZoneRecord)) → option_map (λ z. z.now) o ≡ p
+      → flat_map (λ e. faults_at Locations e.row (location_links (tables geo folder) e.values)) (map zone_entry (zone_list p)) ≡ link_faults geo folder Locations
+  zone_links_at p e =
+      ap (λ z. flat_map (λ e. faults_at Locations e.row (location_links (tables geo folder) e.values)) (map zone_entry (zone_list z))) (sym e)
+      ∙ ap (flat_map (λ e. faults_at Locations e.row (location_links (tables geo folder) e.values))) (sym feature_entries)
+
+  -- the faults of zones that were read, beside the tables
+  pub read_zone_links : (zones : List ZoneRecord) → option_map (λ z. z.now) o ≡ Some zones
+      → flat_map (λ e. faults_at Locations e.row (location_links (tables geo folder) e.values)) (map zone_entry zones) ≡ link_faults geo folder Locations
+  unfolding zone_list
+  read_zone_links zones e = zone_links_at (Some zones) e
+
+  -- of none
+  pub unread_zone_links : option_map (λ z. z.now) o ≡ None → [] ≡ link_faults geo folder Locations
+  unfolding zone_list
+  unread_zone_links e = zone_links_at None e
+
+  -- where locations.geojson has no faults, each zone has an id
+  pub zones_have_ids : level_one raw ≡ [] → (zones : List ZoneRecord) → option_map (λ z. z.now) o ≡ Some zones → HaveZoneIds zones
+  zones_have_ids none zones e = by raw.zones (no_zone_faults raw none) tells (sym is ∙ e)
+    where
+      by : (found : FoundZones) → zone_faults found ≡ [] → TellsZones geo (folder Locations) found → zones_in found ≡ Some zones → HaveZoneIds zones
+      by FoundAs.Absent none tells e = cc
+      by FoundAs.TooLarge none tells e = cc
+      by (FoundAs.Refused code row) none tells e = cc
+      by (FoundAs.Read read) none tells e = subst HaveZoneIds (some_zones read zones e) (λ k d lt.
+          let given = tells.given (nil_from_map (λ f. fault Locations f.0 f.1) (repeated (map feature_in read)) none) k (feature_in d) (subst (λ n. k < n) (sym (length-map read feature_in)) lt) in
+          filled_given (get_or read k d).id (subst (λ f. f.id ≢ []) (get_or-map feature_in read k d (feature_in d) lt) given))

@@ -10,6 +10,8 @@ pub mod KnownIds
 pub mod FoundFacts
 pub mod FolderFacts
 pub mod ZoneFacts
+pub mod ZoneIds
 pub mod LevelFacts
 pub mod KeptTables
 pub mod LinkedTables
+pub mod SoundZones

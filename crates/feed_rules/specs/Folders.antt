@@ -8,6 +8,7 @@ use Rattle.flex_model.specs.declared.fault.InputFile.TheVariants.{Agency, Stops,
 use Rattle.flex_model.specs.declared.fault.RawFile.{RawFile}
 use Rattle.flex_model.specs.declared.fault.RawFile.TheVariants.{Absent, TooLarge, Bytes}
 use Rattle.feed_meaning.specs.Folder.{Folder}
+use Rattle.feed_meaning.specs.Told.{IsWithin}
 use Rattle.feed_rules.specs.Found.{IsFound}
 use Rattle.feed_rules.specs.Zones.{AreFoundZones}
 use Rattle.feed_rules.specs.declared.found.Found.TheVariants as found
@@ -87,15 +88,22 @@ is_feed_table Transfers = true
 is_feed_table Frequencies = true
 is_feed_table file = false
 
+-- the file is one of a feed
+abbrev pub is_feed_file : InputFile → Bool
+is_feed_file Locations = true
+is_feed_file file = is_feed_table file
+
 -- what locations.geojson was found to be
 abbrev pub found_zones : RawFeed → FoundZones
 found_zones raw = raw.zones
 
--- What was read stands for the folder: each table was found to be what the folder has, and so were the zones.
+-- What was read stands for the folder: each table was found to be what the folder has, and so were the zones, from fewer
+-- than 2^32 bytes.
 pub record ReadsFolder (raw : RawFeed) (folder : Folder) : Type 0 where
   pub tables : (file : InputFile) → is_feed_table file ≡ true
       → IsFound (folder file) (found_of raw file)
   pub zones : AreFoundZones (folder Locations) (found_zones raw)
+  pub counted : IsWithin 4294967295 (folder Locations)
 
 -- the records of a table that was read, header first
 abbrev pub table_of : Found → Option (List (List (List ℕ)))

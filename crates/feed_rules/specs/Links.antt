@@ -10,6 +10,7 @@ use Rattle.feed_meaning.specs.FeedLinks.{Tables, is_station}
 use Rattle.feed_meaning.specs.Indexes.{HasIds}
 use Rattle.feed_meaning.specs.Rules.{Values}
 use Rattle.feed_meaning.specs.Tables.{Entry, entries_of}
+use Rattle.feed_rules.specs.Zones.{zone_values}
 use Rattle.feed_rules.specs.declared.known_ids.LinkTables.{LinkTables}
 use Rattle.feed_rules.specs.declared.links.LinkIds.{LinkIds}
 use Prim.Native.String.{String}
@@ -37,7 +38,7 @@ abbrev pub StandForColumn : List (List ℕ) → Option (Bor (List (List (List �
 StandForColumn ids found name = (tables : Tables) (file : InputFile) (column : String)
     → name ≡ codes column → tables file ≡ records_in found → HasIds ids tables file column
 
--- the tables' records are those of the files, and there are no features
+-- the tables' records are those of the files
 pub record AreTablesOf (found : LinkTables) (tables : Tables) : Type 0 where
   pub routes : tables Routes ≡ records_in found.routes
   pub calendar : tables Calendar ≡ records_in found.calendar
@@ -46,7 +47,7 @@ pub record AreTablesOf (found : LinkTables) (tables : Tables) : Type 0 where
   pub stops : tables Stops ≡ records_in found.stops
   pub groups : tables LocationGroups ≡ records_in found.groups
   pub booking_rules : tables BookingRules ≡ records_in found.booking_rules
-  pub zones : tables Locations ≡ []
+  pub zones : tables Locations ≡ zone_values found.zones
 
 -- each record of location_groups.txt has an id
 abbrev pub HaveGroupIds : InputFile → List Entry → Type 0

@@ -1,15 +1,15 @@
 // The fault list of a feed.
 
-ghost use Rattle.std.specs.Prelude.{◌≡◌, ◌++◌, [], IfOk, OnOk};
-ghost use Rattle.std.specs.List.{flat_map};
+ghost use Rattle.std.specs.Prelude.{◌≡◌, ◌++◌, ℕ, List, [], IfOk, OnOk, true};
 ghost use Rattle.flex_model.specs.declared.fault.InputFile.TheVariants as InputFiles;
 ghost use Rattle.feed_meaning.specs.FeedFaults.{Geo, feed_faults, feed_level_two, link_faults, tables};
 ghost use Rattle.feed_meaning.specs.Folder.{Folder};
-ghost use Rattle.feed_rules.specs.Folders.{ReadsFolder};
+ghost use Rattle.feed_meaning.specs.Locations.{Scan, zones_of};
+ghost use Rattle.feed_rules.specs.Folders.{ReadsFolder, found_zones, is_feed_file, is_feed_table};
 ghost use Rattle.feed_rules.specs.Levels as Levels;
-ghost use Rattle.feed_rules.specs.Levels.{LacksLocations};
 ghost use Rattle.feed_rules.specs.Links.{AreTablesOf, StandFor};
 ghost use Rattle.feed_rules.specs.Orders.{AreOrdersOf};
+ghost use Rattle.feed_rules.specs.Zones.{ScansFolder, TellsZones};
 
 use crate::file_faults::table_faults;
 use crate::file_links::file_link_faults;
@@ -18,11 +18,14 @@ use crate::found::is_found;
 use crate::known_ids::{LinkTables, link_ids};
 use crate::links::LinkIds;
 use crate::orders::{TripOrder, trip_order};
+use crate::zone_links::zone_link_faults;
+use crate::zones::{are_found, zone_faults};
 use flex_model::{Fault, InputFile, Listed, NoMemory};
+use geo_json::features_are_few;
 use std::alloc::Global;
 
-// The tables of a feed, in the order of its files.
-const FEED_TABLES: [InputFile; 12] = [
+// The files of a feed, in their order.
+const FEED_FILES: [InputFile; 13] = [
     InputFile::Agency,
     InputFile::Stops,
     InputFile::Routes,
@@ -30,6 +33,7 @@ const FEED_TABLES: [InputFile; 12] = [
     InputFile::StopTimes,
     InputFile::Calendar,
     InputFile::CalendarDates,
+    InputFile::Locations,
     InputFile::LocationGroups,
     InputFile::LocationGroupStops,
     InputFile::BookingRules,
@@ -42,11 +46,8 @@ fn needs(raw: &RawFeed, file: InputFile) -> bool
     ensures { result ≡ Levels.needs raw.now file }
 {
     match file {
-        InputFile::Agency
-        | InputFile::Stops
-        | InputFile::Routes
-        | InputFile::Trips
-        | InputFile::StopTimes => true,
+        InputFile::Agency | InputFile::Routes | InputFile::Trips | InputFile::StopTimes => true,
+        InputFile::Stops => !are_found(&raw.zones),
         InputFile::Calendar => !is_found(InputFile::CalendarDates, &raw.calendar_dates),
         _ => false,
     }
@@ -62,24 +63,35 @@ fn add_all(faults: &mut Listed<Fault>, more: &Listed<Fault>) -> Result<(), NoMem
     Ok(())
 }
 
-// The faults of the tables by themselves.
+// The faults of a file by itself.
+fn own_faults(alloc: Global, raw: &RawFeed, file: InputFile) -> Result<Listed<Fault>, NoMemory>
+    ensures { IfOk result (λ faults. faults ≡ Levels.own_faults raw.now file) }
+{
+    if let InputFile::Locations = file {
+        return zone_faults(alloc, &raw.zones);
+    }
+    match raw.found(file) {
+        Some(found) => table_faults(alloc, file, needs(raw, file), found),
+        None => Ok(Listed::new(alloc)),
+    }
+}
+
+// The faults of the files by themselves.
 fn level_one(alloc: Global, raw: &RawFeed) -> Result<Listed<Fault>, NoMemory>
     ensures { IfOk result (λ faults. faults ≡ Levels.level_one raw.now) }
 {
     let mut faults = Listed::new(alloc);
-    for file in FEED_TABLES {
-        let Some(found) = raw.found(file) else {
-            continue;
-        };
-        let own = table_faults(alloc, file, needs(raw, file), found)?;
+    for file in FEED_FILES {
+        let own = own_faults(alloc, raw, file)?;
         add_all(&mut faults, &own)?;
     }
     Ok(faults)
 }
 
-// The tables that records name.
+// The tables that records name, and the zones.
 fn link_tables(raw: &RawFeed) -> LinkTables<'_>
-    ensures { (geo : Geo) (folder : Folder) → ReadsFolder raw.now folder → LacksLocations folder
+    ensures { (geo : Geo) (folder : Folder) → ReadsFolder raw.now folder
+        → TellsZones geo (folder InputFiles.Locations) (found_zones raw.now)
         → Levels.level_one raw.now ≡ []
         → AreTablesOf result (tables geo folder) }
 {
@@ -91,10 +103,72 @@ fn link_tables(raw: &RawFeed) -> LinkTables<'_>
         stops: raw.table(InputFile::Stops),
         groups: raw.table(InputFile::LocationGroups),
         booking_rules: raw.table(InputFile::BookingRules),
+        zones: raw.zones(),
     }
 }
 
-// The faults between the tables.
+// The faults of the zones beside the tables, none where there are no zones.
+fn own_zone_links(
+    alloc: Global,
+    raw: &RawFeed,
+    ids: &LinkIds<'_>,
+) -> Result<Listed<Fault>, NoMemory>
+    ensures { IfOk result (λ faults. (geo : Geo) (folder : Folder) → ReadsFolder raw.now folder
+        → TellsZones geo (folder InputFiles.Locations) (found_zones raw.now)
+        → Levels.level_one raw.now ≡ []
+        → StandFor ids.now (tables geo folder)
+        → faults ≡ link_faults geo folder InputFiles.Locations) }
+{
+    match raw.zones() {
+        Some(zones) => zone_link_faults(alloc, zones, ids),
+        None => Ok(Listed::new(alloc)),
+    }
+}
+
+// The faults of a table beside the other files, none where there is no such table.
+fn own_table_links<'a>(
+    alloc: Global,
+    raw: &'a RawFeed,
+    file: InputFile,
+    ids: &LinkIds<'_>,
+    order: &TripOrder<'a>,
+) -> Result<Listed<Fault>, NoMemory>
+    ensures { IfOk result (λ faults. (geo : Geo) (folder : Folder) → is_feed_table file ≡ true
+        → ReadsFolder raw.now folder
+        → Levels.level_one raw.now ≡ []
+        → StandFor ids.now (tables geo folder)
+        → AreOrdersOf order.now (tables geo folder InputFiles.StopTimes)
+        → faults ≡ link_faults geo folder file) }
+{
+    match raw.table(file) {
+        Some(table) => file_link_faults(alloc, file, table, ids, order),
+        None => Ok(Listed::new(alloc)),
+    }
+}
+
+// The faults of a file of the feed beside the other files.
+fn own_links<'a>(
+    alloc: Global,
+    raw: &'a RawFeed,
+    file: InputFile,
+    ids: &LinkIds<'_>,
+    order: &TripOrder<'a>,
+) -> Result<Listed<Fault>, NoMemory>
+    ensures { IfOk result (λ faults. (geo : Geo) (folder : Folder) → is_feed_file file ≡ true
+        → ReadsFolder raw.now folder
+        → TellsZones geo (folder InputFiles.Locations) (found_zones raw.now)
+        → Levels.level_one raw.now ≡ []
+        → StandFor ids.now (tables geo folder)
+        → AreOrdersOf order.now (tables geo folder InputFiles.StopTimes)
+        → faults ≡ link_faults geo folder file) }
+{
+    if let InputFile::Locations = file {
+        return own_zone_links(alloc, raw, ids);
+    }
+    own_table_links(alloc, raw, file, ids, order)
+}
+
+// The faults between the files.
 fn all_link_faults<'a>(
     alloc: Global,
     raw: &'a RawFeed,
@@ -102,26 +176,25 @@ fn all_link_faults<'a>(
     order: &TripOrder<'a>,
 ) -> Result<Listed<Fault>, NoMemory>
     ensures { IfOk result (λ faults. (geo : Geo) (folder : Folder) → ReadsFolder raw.now folder
+        → TellsZones geo (folder InputFiles.Locations) (found_zones raw.now)
         → Levels.level_one raw.now ≡ []
         → StandFor ids.now (tables geo folder)
         → AreOrdersOf order.now (tables geo folder InputFiles.StopTimes)
-        → faults ≡ flat_map (link_faults geo folder) Levels.feed_tables) }
+        → faults ≡ feed_level_two geo folder) }
 {
     let mut faults = Listed::new(alloc);
-    for file in FEED_TABLES {
-        let Some(table) = raw.table(file) else {
-            continue;
-        };
-        let own = file_link_faults(alloc, file, table, ids, order)?;
+    for file in FEED_FILES {
+        let own = own_links(alloc, raw, file, ids, order)?;
         add_all(&mut faults, &own)?;
     }
     Ok(faults)
 }
 
-// The faults between the tables, where there are none of the tables by themselves.
+// The faults between the files, where there are none of the files by themselves.
 fn level_two(alloc: Global, raw: &RawFeed) -> Result<Listed<Fault>, NoMemory>
     ensures { IfOk result (λ faults. (geo : Geo) (folder : Folder) → ReadsFolder raw.now folder
-        → LacksLocations folder → Levels.level_one raw.now ≡ []
+        → TellsZones geo (folder InputFiles.Locations) (found_zones raw.now)
+        → Levels.level_one raw.now ≡ []
         → faults ≡ feed_level_two geo folder) }
 {
     let found = link_tables(raw);
@@ -133,12 +206,14 @@ fn level_two(alloc: Global, raw: &RawFeed) -> Result<Listed<Fault>, NoMemory>
     all_link_faults(alloc, raw, &ids, &order)
 }
 
-/// The fault list of the feed: of the tables by themselves, and where that is empty, of the tables beside each other. It is
-/// the whole list where locations.geojson, whose zones aren't judged here, is absent.
+/// The fault list of the feed: of the files by themselves, and where that is empty, of the files beside each other. It is
+/// that of every way to scan the text of locations.geojson that agrees with the grammar of JSON.
 pub fn faults(alloc: Global, raw: &RawFeed) -> Result<Listed<Fault>, NoMemory>
-    ensures { IfOk result (λ faults. (geo : Geo) (folder : Folder) → ReadsFolder raw.now folder
-        → LacksLocations folder → faults ≡ feed_faults geo folder) }
+    ensures { IfOk result (λ faults. (scan : List ℕ → Scan) (folder : Folder)
+        → ReadsFolder raw.now folder → ScansFolder scan folder
+        → faults ≡ feed_faults (zones_of scan) folder) }
 {
+    features_are_few();
     let alone = level_one(alloc, raw)?;
     if !alone.is_empty() {
         return Ok(alone);

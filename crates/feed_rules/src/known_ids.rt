@@ -1,21 +1,25 @@
 // The ids of the tables that records name.
 
-ghost use Rattle.std.specs.Prelude.{◌≡◌, ◌≢◌, [], ℕ, List, IfOk, true};
+ghost use Rattle.std.specs.Prelude.{◌≡◌, ◌≢◌, [], ℕ, List, IfOk, fold, map, true};
 ghost use Rattle.std.specs.List.{list_any};
 ghost use Rattle.std.specs.Str.{bytes_eq};
 ghost use Rattle.flex_model.specs.declared.fault.InputFile.TheVariants as InputFiles;
 ghost use Rattle.feed_tables.specs.Refusals.{is_given};
 ghost use Rattle.feed_meaning.specs.FeedLinks.{Tables, is_station};
+ghost use Rattle.feed_meaning.specs.Indexes.{HasIds};
+ghost use Rattle.feed_meaning.specs.Noted.{noted};
 ghost use Rattle.feed_rules.specs.Links.{AreTablesOf, StandFor, StandForColumn, records_in};
+ghost use Rattle.feed_rules.specs.Zones.{zone_values};
 
 use crate::links::LinkIds;
 use crate::stations::stations_in;
 use feed_meaning::{Ids, ids_in};
 use feed_tables::Table;
-use flex_model::NoMemory;
+use flex_model::{Listed, NoMemory};
+use geo_json::ZoneRecord;
 use std::alloc::Global;
 
-/// The tables that records name, each where its file has records.
+/// The tables that records name, each where its file has records, and the zones.
 #[derive(Clone, Copy)]
 pub(crate) struct LinkTables<'a> {
     pub(crate) routes: Option<&'a Table>,
@@ -25,6 +29,7 @@ pub(crate) struct LinkTables<'a> {
     pub(crate) stops: Option<&'a Table>,
     pub(crate) groups: Option<&'a Table>,
     pub(crate) booking_rules: Option<&'a Table>,
+    pub(crate) zones: Option<&'a Listed<ZoneRecord>>,
 }
 
 // The ids in a column of a table, none where there is no table.
@@ -55,7 +60,33 @@ fn known_stations<'a>(alloc: Global, stops: Option<&'a Table>) -> Result<Ids<'a>
     }
 }
 
-/// The ids of the tables that records name, without those of any features.
+/// The ids of zones, each once, by their first appearance.
+pub fn zone_ids<'a>(alloc: Global, zones: &'a Listed<ZoneRecord>) -> Result<Ids<'a>, NoMemory>
+    ensures { IfOk result (λ ids. ids ≡ fold noted [] (map (λ zone. zone.id) zones.now)) }
+{
+    let mut ids = Ids::new(alloc);
+    for zone in zones.as_slice() {
+        ids.note(zone.id.as_str())?;
+    }
+    Ok(ids)
+}
+
+// The ids of the zones, none where there is no such file.
+fn known_zones<'a>(
+    alloc: Global,
+    zones: Option<&'a Listed<ZoneRecord>>,
+) -> Result<Ids<'a>, NoMemory>
+    ensures { IfOk result (λ ids. (tables : Tables)
+        → tables InputFiles.Locations ≡ zone_values zones.entry
+        → HasIds ids tables InputFiles.Locations "id") }
+{
+    match zones {
+        Some(zones) => zone_ids(alloc, zones),
+        None => Ok(Ids::new(alloc)),
+    }
+}
+
+/// The ids of the tables and zones that records name.
 pub(crate) fn link_ids<'a>(alloc: Global, found: &LinkTables<'a>) -> Result<LinkIds<'a>, NoMemory>
     ensures { IfOk result (λ ids. (tables : Tables) → AreTablesOf found.now tables
         → StandFor ids tables) }
@@ -67,7 +98,7 @@ pub(crate) fn link_ids<'a>(alloc: Global, found: &LinkTables<'a>) -> Result<Link
     let stops = known_ids_in(alloc, found.stops, "stop_id")?;
     let stations = known_stations(alloc, found.stops)?;
     let groups = known_ids_in(alloc, found.groups, "location_group_id")?;
-    let zones = Ids::new(alloc);
+    let zones = known_zones(alloc, found.zones)?;
     let booking_rules = known_ids_in(alloc, found.booking_rules, "booking_rule_id")?;
     Ok(LinkIds {
         routes,

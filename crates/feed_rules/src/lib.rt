@@ -26,7 +26,9 @@ mod stop_times;
 mod stops;
 mod transfers;
 mod trips;
+mod zone_links;
 mod zones;
 
 pub use feed_faults::faults;
 pub use folder::{FeedBytes, RawFeed};
+pub use known_ids::zone_ids;

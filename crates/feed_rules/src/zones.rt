@@ -1,13 +1,20 @@
 // The zones of a feed, as they were read.
 
-ghost use Rattle.std.specs.Prelude.{◌≡◌, ◌≤◌, IfOk, length};
+ghost use Rattle.std.specs.Prelude.{◌≡◌, ◌≤◌, [], ◌∷◌, IfOk, length, map};
+ghost use Rattle.flex_model.specs.declared.fault.InputFile.TheVariants as InputFiles;
 ghost use Rattle.flex_model.specs.declared.fault.RawFile.TheVariants as Raw;
 ghost use Rattle.feed_meaning.specs.Locations as Locations;
 ghost use Rattle.feed_meaning.specs.Told.{IsWithin};
+ghost use Rattle.feed_meaning.specs.Locations.{repeated};
+ghost use Rattle.feed_meaning.specs.Tables as Tables;
+ghost use Rattle.feed_rules.specs.Zones as FoundFiles;
 ghost use Rattle.feed_rules.specs.Zones.{AreFoundZones};
+ghost use Rattle.geo_json.specs.Zones.{feature_in};
 
-use flex_model::{FaultCode, Listed, NoMemory, RawFile};
+use feed_meaning::{add_faults, rule};
+use flex_model::{Fault, FaultCode, InputFile, Listed, NoMemory, RawFile};
 use geo_json::{GeoRefusal, ZoneRecord, read_zones};
+use indexmap::IndexSet;
 use std::alloc::Global;
 
 /// What locations.geojson was found to be.
@@ -78,5 +85,56 @@ pub(crate) fn find_zones(alloc: Global, raw: &RawFile) -> Result<FoundZones, NoM
         RawFile::Absent => Ok(FoundZones::Absent),
         RawFile::TooLarge => Ok(FoundZones::TooLarge),
         RawFile::Bytes(bytes) => read_bytes(alloc, bytes.as_slice()),
+    }
+}
+
+/// Whether the file was found, and doesn't count as absent.
+pub(crate) fn are_found(found: &FoundZones) -> bool
+    ensures { result ≡ FoundFiles.are_found found.now }
+{
+    match found {
+        FoundZones::Absent => false,
+        _ => true,
+    }
+}
+
+// One fault of the file.
+fn one_fault(alloc: Global, row: u64, code: FaultCode) -> Result<Listed<Fault>, NoMemory>
+    ensures { IfOk result (λ faults. faults ≡ Tables.fault InputFiles.Locations row code ∷ []) }
+{
+    let mut faults = Listed::new(alloc);
+    faults.push(Fault {
+        file: InputFile::Locations,
+        row,
+        code,
+    })?;
+    Ok(faults)
+}
+
+// The faults of zones with an id that an earlier one has.
+fn repeated_ids(alloc: Global, zones: &Listed<ZoneRecord>) -> Result<Listed<Fault>, NoMemory>
+    ensures { IfOk result (λ faults. faults
+        ≡ map (λ f. Tables.fault InputFiles.Locations f.0 f.1)
+        (repeated (map feature_in zones.now))) }
+{
+    let mut faults = Listed::new(alloc);
+    let mut met = IndexSet::new(alloc);
+    for zone in zones.as_slice() {
+        let is_new = met.insert(zone.id.as_str())?;
+        let rules = [rule(FaultCode::DuplicateKey, !is_new)];
+        add_faults(&mut faults, InputFile::Locations, zone.line, &rules)?;
+    }
+    Ok(faults)
+}
+
+/// The faults of locations.geojson by itself, which every feed can do without.
+pub(crate) fn zone_faults(alloc: Global, found: &FoundZones) -> Result<Listed<Fault>, NoMemory>
+    ensures { IfOk result (λ faults. faults ≡ FoundFiles.zone_faults found.now) }
+{
+    match found {
+        FoundZones::Absent => Ok(Listed::new(alloc)),
+        FoundZones::TooLarge => one_fault(alloc, 0, FaultCode::FileTooLarge),
+        FoundZones::Refused { code, row } => one_fault(alloc, *row, *code),
+        FoundZones::Read(zones) => repeated_ids(alloc, zones),
     }
 }

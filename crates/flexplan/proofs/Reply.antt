@@ -9,6 +9,8 @@ use Rattle.flex_model.specs.declared.feed.Feed.{Feed}
 use Rattle.flex_model.specs.declared.query.Query.{Query}
 use Rattle.flex_model.specs.declared.times.Times.{Times}
 use Rattle.feed_meaning.specs.Told.{told_folder}
+use Rattle.feed_meaning.specs.FeedFaults.{Geo}
+use Rattle.feed_meaning.specs.Locations.{zones_of}
 use Rattle.feed_load.specs.Loads.{IsLoaded}
 use Rattle.feed_load.specs.declared.folder.Loaded.TheVariants.{Clean, Faulty}
 use Rattle.query_io.specs.AnswerText.{answer_text}
@@ -90,42 +92,44 @@ accepted request told pieces before after printed end known end_is gains =
     subst (λ e. MayHavePrinted request files (status_of e) bytes) (sym end_is) (accepted_printed request files pieces printed bytes reply prints)))
 
 -- the feed, the times folder or the query file is refused
-refused_as : (files : FileMap) (paths : InputPaths) (s : Status) (faults : List Fault) → IsRefused files paths s faults
-    → IsPlanReply files paths s (fault_lines faults ∷ [])
-refused_as files paths status.QueriesFaulty faults is =
+refused_as : (geo : Geo) (files : FileMap) (paths : InputPaths) (s : Status) (faults : List Fault) → IsRefused geo files paths s faults
+    → IsPlanReply geo files paths s (fault_lines faults ∷ [])
+refused_as geo files paths status.QueriesFaulty faults is =
     (is.0, ((λ none. is.1 (is.2 ∙ none)), ap (λ fs. fault_lines fs ∷ []) is.2))
-refused_as files paths status.Done faults none = absurd none
-refused_as files paths status.Usage faults none = absurd none
-refused_as files paths status.FeedFaulty faults is =
-    (is.0, ((λ none. is.1 (is.2 ∙ none)), ap (λ fs. fault_lines fs ∷ []) is.2))
-refused_as files paths status.TimesFaulty faults is =
+refused_as geo files paths status.Done faults none = absurd none
+refused_as geo files paths status.Usage faults none = absurd none
+refused_as geo files paths status.FeedFaulty faults is =
+    ((λ none. is.0 (is.1 ∙ none)), ap (λ fs. fault_lines fs ∷ []) is.1)
+refused_as geo files paths status.TimesFaulty faults is =
     let its = is.2 in
     (is.0, (its.0, its.1, ((λ none. is.1 (its.2 ∙ none)), ap (λ fs. fault_lines fs ∷ []) its.2)))
-refused_as files paths status.CertRefused faults none = absurd none
-refused_as files paths status.ReadFault faults none = absurd none
-refused_as files paths status.WriteFault faults none = absurd none
-refused_as files paths status.NoMemory faults none = absurd none
-refused_as files paths status.NotBuilt faults none = absurd none
+refused_as geo files paths status.CertRefused faults none = absurd none
+refused_as geo files paths status.ReadFault faults none = absurd none
+refused_as geo files paths status.WriteFault faults none = absurd none
+refused_as geo files paths status.NoMemory faults none = absurd none
+refused_as geo files paths status.NotBuilt faults none = absurd none
 
 pub plan_refused : (told : Option FileMap) (paths : InputPaths) (s : Status) (faults : List Fault) → IfSome told (λ files. IsOpened files paths (Refused s faults)) → IfSome told (λ files. IsReply (plan paths) files s (fault_lines faults ∷ []))
-plan_refused told paths s faults is = if_told told _ _ is (λ files refused. refused_as files paths s faults refused)
+plan_refused told paths s faults is = if_told told _ _ is (λ files refused. λ scan scans. refused_as (zones_of scan) files paths s faults (refused scan scans))
 
 pub plan_accepted : (told : Option FileMap) (paths : InputPaths) (input : declared.Input) → IfSome told (λ files. IsOpened files paths (Accepted input))
     → IfSome told (λ files. IsReply (plan paths) files status.Done (map (answer input.feed input.times input.zone) input.queries))
 plan_accepted told paths input is =
-    if_told told _ _ is (λ files held. (
+    if_told told _ _ is (λ files opened. λ scan scans.
+    let geo : Geo = zones_of scan in
+    let held = opened scan scans in (
       input.zone,
       held.built,
       ap (λ f. map (answer f input.times input.zone) input.queries) held.feed
-          ∙ ap (λ t. map (answer (feed files paths) t input.zone) input.queries) held.times
-          ∙ ap (map (answer (feed files paths) (times files paths) input.zone)) held.queries,
+          ∙ ap (λ t. map (answer (feed geo files paths) t input.zone) input.queries) held.times
+          ∙ ap (map (answer (feed geo files paths) (times geo files paths) input.zone)) held.queries,
     ))
 
 -- nothing was printed of input that isn't planned for
 pub plan_not_built : (told : Option FileMap) (paths : InputPaths) (before : Option (List ℕ)) → IfSome told (λ files. IsOpened files paths opened.NotBuilt)
     → PrintsRight (plan paths) told status.NotBuilt before before
 plan_not_built told paths before is =
-    if_told told _ _ is (λ files unbuilt. gains_nothing before _ ([], (unbuilt, refl), refl))
+    if_told told _ _ is (λ files unbuilt. gains_nothing before _ ([], (λ scan scans. (unbuilt scan scans, refl)), refl))
 
 pub refusal_finishes : (s : Status) (faults : List Fault) → IsSoundOpening (Refused s faults) → IsFinished s
 refusal_finishes status.QueriesFaulty faults _ = tt
@@ -143,10 +147,11 @@ refusal_finishes status.NotBuilt faults none = absurd none
 pub lint_clean : (told : Option FileMap) (folder : List ℕ) (held : Feed) (before : Option (List ℕ)) → IfSome told (λ files. IsLoaded (told_folder files folder) (Clean held))
     → PrintsRight (lint folder) told status.Done before before
 lint_clean told folder held before is =
-    if_told told _ _ is (λ files loaded. gains_nothing before _ ([], (loaded.0, loaded.1, refl), refl))
+    if_told told _ _ is (λ files loaded. gains_nothing before _ ([], (λ scan scans. ((loaded scan scans).0, refl)), refl))
 
 -- the fault list of a feed
 pub lint_faulty : (told : Option FileMap) (folder : List ℕ) (faults : List Fault) → IfSome told (λ files. IsLoaded (told_folder files folder) (Faulty faults))
     → IfSome told (λ files. IsReply (lint folder) files status.FeedFaulty (fault_lines faults ∷ []))
 lint_faulty told folder faults is =
-    if_told told _ _ is (λ files loaded. (loaded.0, ((λ none. loaded.1 (loaded.2 ∙ none)), ap (λ fs. fault_lines fs ∷ []) loaded.2)))
+    if_told told _ _ is (λ files loaded. λ scan scans.
+    let its = loaded scan scans in ((λ none. its.0 (its.1 ∙ none)), ap (λ fs. fault_lines fs ∷ []) its.1))

@@ -3,10 +3,13 @@ use Rattle.std.specs.Prelude.{◌≡◌, ◌≢◌, ◌⊎◌, ℕ, ℤ, List, [
 use Rattle.flex_io.specs.Outside.{FileMap, Gains, IsBeginning}
 use Rattle.flex_io.specs.declared.error.PutError.{PutError}
 use Rattle.flex_model.specs.declared.fault.Fault.{Fault}
+use Rattle.feed_meaning.specs.FeedFaults.{Geo}
 use Rattle.feed_meaning.specs.Folder.{Folder}
+use Rattle.feed_meaning.specs.Locations.{Scan, zones_of}
 use Rattle.feed_meaning.specs.Told.{told_folder}
+use Rattle.feed_rules.specs.Zones.{ScansFolder}
 use Rattle.flexplan.specs.Words.{InputPaths, Request, plan, lint}
-use Rattle.flexplan.specs.Input.{AreTimesAccepted, FindsZone, IsBuilt, IsFeedAccepted, IsNotBuilt, LacksZones, faults_of_feed, faults_of_queries, faults_of_times, feed, feed_folder, queries, times}
+use Rattle.flexplan.specs.Input.{AreTimesAccepted, FindsZone, IsBuilt, IsFeedAccepted, IsNotBuilt, faults_of_feed, faults_of_queries, faults_of_times, feed, feed_folder, queries, times}
 use Rattle.flexplan.specs.Answers.{Piece, fault_lines, answer, RightText}
 use Rattle.flexplan.specs.Texts.{Texts}
 use Rattle.flexplan.specs.Failures.{failure_of_put}
@@ -16,41 +19,44 @@ use Rattle.flexplan.specs.declared.status.Failure.{Failure}
 use Rattle.flexplan.specs.declared.status.Failure.TheVariants as failure
 
 -- an exact answer to each query of the input, in the zone with these bases
-abbrev pub answers_of : FileMap → InputPaths → List ℤ → List Piece
-answers_of files paths bases = map (answer (feed files paths) (times files paths) bases)
-    (queries files paths)
+abbrev pub answers_of : Geo → FileMap → InputPaths → List ℤ → List Piece
+answers_of geo files paths bases =
+    map (answer (feed geo files paths) (times geo files paths) bases) (queries geo files paths)
 
 -- a faulty input's one piece
 abbrev pub AreFaultLines : List Fault → List Piece → Type 0
 AreFaultLines faults pieces = (faults ≢ []) × (pieces ≡ fault_lines faults ∷ [])
 
--- the status and the pieces that are right for `plan`
-abbrev pub IsPlanReply : FileMap → InputPaths → Status → List Piece → Type 0
-IsPlanReply files paths Done pieces =
-    (bases : List ℤ) × IsBuilt files paths bases × (pieces ≡ answers_of files paths bases)
-IsPlanReply files paths FeedFaulty pieces = LacksZones (feed_folder files paths)
-    × AreFaultLines (faults_of_feed (feed_folder files paths)) pieces
-IsPlanReply files paths TimesFaulty pieces =
-    IsFeedAccepted files paths × ((zone : Option (List ℤ)) × FindsZone files paths zone
-    × AreFaultLines (faults_of_times files paths zone) pieces)
-IsPlanReply files paths QueriesFaulty pieces =
-    ((bases : List ℤ) × AreTimesAccepted files paths bases)
-    × AreFaultLines (faults_of_queries files paths) pieces
-IsPlanReply files paths NotBuilt pieces = IsNotBuilt files paths × (pieces ≡ [])
-IsPlanReply files paths _ pieces = ⊥
+-- the status and the pieces that are right for `plan`, by how locations.geojson is read
+abbrev pub IsPlanReply : Geo → FileMap → InputPaths → Status → List Piece → Type 0
+IsPlanReply geo files paths Done pieces = (bases : List ℤ) × IsBuilt geo files paths bases
+    × (pieces ≡ answers_of geo files paths bases)
+IsPlanReply geo files paths FeedFaulty pieces =
+    AreFaultLines (faults_of_feed geo (feed_folder files paths)) pieces
+IsPlanReply geo files paths TimesFaulty pieces =
+    IsFeedAccepted geo files paths × ((zone : Option (List ℤ)) × FindsZone files paths zone
+    × AreFaultLines (faults_of_times geo files paths zone) pieces)
+IsPlanReply geo files paths QueriesFaulty pieces =
+    ((bases : List ℤ) × AreTimesAccepted geo files paths bases)
+    × AreFaultLines (faults_of_queries geo files paths) pieces
+IsPlanReply geo files paths NotBuilt pieces = IsNotBuilt geo files paths × (pieces ≡ [])
+IsPlanReply geo files paths _ pieces = ⊥
 
--- the status and the pieces that are right for `lint`
-abbrev pub IsLintReply : Folder → Status → List Piece → Type 0
-IsLintReply folder Done pieces = LacksZones folder × (faults_of_feed folder ≡ []) × (pieces ≡ [])
-IsLintReply folder FeedFaulty pieces =
-    LacksZones folder × AreFaultLines (faults_of_feed folder) pieces
-IsLintReply folder NotBuilt pieces = (LacksZones folder → ⊥) × (pieces ≡ [])
-IsLintReply folder _ pieces = ⊥
+-- the status and the pieces that are right for `lint`, likewise
+abbrev pub IsLintReply : Geo → Folder → Status → List Piece → Type 0
+IsLintReply geo folder Done pieces = (faults_of_feed geo folder ≡ []) × (pieces ≡ [])
+IsLintReply geo folder FeedFaulty pieces = AreFaultLines (faults_of_feed geo folder) pieces
+IsLintReply geo folder _ pieces = ⊥
 
--- the status and the pieces that are right for a request over told files
+-- The status and the pieces that are right for a request over told files, in whichever way that agrees with the grammar of
+-- JSON the text of locations.geojson is scanned.
 abbrev pub IsReply : Request → FileMap → Status → List Piece → Type 0
-IsReply (plan paths) files status pieces = IsPlanReply files paths status pieces
-IsReply (lint folder) files status pieces = IsLintReply (told_folder files folder) status pieces
+IsReply (plan paths) files status pieces =
+    (scan : List ℕ → Scan) → ScansFolder scan (feed_folder files paths)
+    → IsPlanReply (zones_of scan) files paths status pieces
+IsReply (lint folder) files status pieces =
+    (scan : List ℕ → Scan) → ScansFolder scan (told_folder files folder)
+    → IsLintReply (zones_of scan) (told_folder files folder) status pieces
 
 -- a right text for each of the right pieces
 abbrev pub IsRight : Request → FileMap → Status → List ℕ → Type 0

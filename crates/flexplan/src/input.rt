@@ -4,8 +4,9 @@ ghost use Rattle.std.specs.Prelude.{◌≡◌, ◌≢◌, ◌≤◌, ◌↔◌, 
 ghost use Rattle.flex_io.specs.Outside.{HasFailed};
 ghost use Rattle.flex_model.specs.SoundFeed.{IsSoundFeed};
 ghost use Rattle.flex_model.specs.SoundTimes.{AreSoundTimes};
+ghost use Rattle.feed_meaning.specs.FeedFaults.{Geo};
 ghost use Rattle.flexplan.specs.Input.{IsPlannedFor};
-ghost use Rattle.flexplan.specs.Opened.{HoldsFeed, HoldsTimes, IsOpened, IsSoundOpening};
+ghost use Rattle.flexplan.specs.Opened.{HoldsFeed, HoldsTimes, IsOpened, IsOpenedBy, IsSoundOpening};
 ghost use Rattle.flexplan.specs.Words.{InputPaths, paths};
 
 use crate::status::Status;
@@ -65,8 +66,9 @@ fn open_queries<F: Files>(
     requires feed { IsSoundFeed feed }
     requires times { AreSoundTimes feed times }
     ensures opened { IfSome (F.told files.old)
-        (λ told. (paths : InputPaths) → paths.queries ≡ path.now
-        → HoldsTimes told paths feed times zone → IfOk result (IsOpened told paths)) }
+        (λ told. (geo : Geo) (paths : InputPaths) → paths.queries ≡ path.now
+        → HoldsTimes geo told paths feed times zone
+        → IfOk result (IsOpenedBy geo told paths)) }
     ensures sound { IfOk result IsSoundOpening }
     ensures told { F.told files.new ≡ F.told files.old }
     ensures counted { F.faults files.old ≤ F.faults files.new }
@@ -103,8 +105,8 @@ fn open_times<F: Files>(
 ) -> Result<Opened, LoadError>
     requires { IsSoundFeed feed }
     ensures opened { IfSome (F.told files.old)
-        (λ told. HoldsFeed told (paths input.now) feed
-        → IfOk result (IsOpened told (paths input.now))) }
+        (λ told. (geo : Geo) → HoldsFeed geo told (paths input.now) feed
+        → IfOk result (IsOpenedBy geo told (paths input.now))) }
     ensures sound { IfOk result IsSoundOpening }
     ensures told { F.told files.new ≡ F.told files.old }
     ensures counted { F.faults files.old ≤ F.faults files.new }
@@ -144,6 +146,5 @@ pub fn open_input<F: Files>(
     match load(alloc, files, input.feed)? {
         Loaded::Clean(feed) => open_times(alloc, files, input, feed),
         Loaded::Faulty(faults) => Ok(Opened::Refused(Status::FeedFaulty, faults)),
-        Loaded::Unbuilt => Ok(Opened::NotBuilt),
     }
 }

@@ -1,6 +1,7 @@
-// Small folders, each with the list that `lint` prints for it: at least one for each rule that a table can break, by itself or
-// with others, and some that just break none.
+// Small folders, each with the list that `lint` prints for it: at least one for each rule that a table or locations.geojson
+// can break, by itself or with others, and some that just break none.
 
+mod locations;
 mod tables;
 
 use crate::run::run;

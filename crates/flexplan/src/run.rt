@@ -84,7 +84,6 @@ fn perform_lint<F: Files, O: Sink>(
             Status::FeedFaulty,
             print_faults(alloc, faults.as_slice(), out),
         ),
-        Loaded::Unbuilt => Ok(Status::NotBuilt),
     }
 }
 

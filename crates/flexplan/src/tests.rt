@@ -218,7 +218,10 @@ fn ids_may_have_any_byte(rt: HostRuntime) -> Result<(), Fail> {
 fn other_input_is_not_planned_for(rt: HostRuntime) -> Result<(), Fail> {
     let alloc = rt.alloc();
     for (path, text) in [
-        ("a/locations.geojson", ""),
+        (
+            "a/locations.geojson",
+            "{\"type\":\"FeatureCollection\",\"features\":[{\"type\":\"Feature\",\"id\":\"Z\",\"geometry\":{\"type\":\"Polygon\",\"coordinates\":[[[4,49],[6,49],[6,51],[4,49]]]}}]}",
+        ),
         (
             "a/stop_times.txt",
             "trip_id,stop_sequence,stop_id,arrival_time,departure_time,pickup_type\nT,1,M,08:00:00,08:00:00,2\nT,2,N,08:20:00,08:20:00,\n",
@@ -323,7 +326,11 @@ fn faults_of_feeds_are_told(rt: HostRuntime) -> Result<(), Fail> {
             Status::FeedFaulty,
             "fault stops.txt 2 BAD_COORDINATE\n",
         ),
-        ([stops, ("a/locations.geojson", "")], Status::NotBuilt, ""),
+        (
+            [stops, ("a/locations.geojson", "")],
+            Status::FeedFaulty,
+            "fault stops.txt 2 BAD_COORDINATE\nfault locations.geojson 1 JSON_SYNTAX\n",
+        ),
     ] {
         let mut files = files_with(alloc, &others)?;
         let ended = ran(alloc, &["lint", "a"], &mut files, MemSink::new(alloc));

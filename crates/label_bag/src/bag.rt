@@ -1,6 +1,6 @@
 // Bags, and offers to them.
 
-ghost use Rattle.std.specs.Prelude.{◌≡◌, ◌↔◌, ◌⊎◌, ◌++◌, ◌∷◌, Contains, OnErr, []};
+ghost use Rattle.std.specs.Prelude.{◌≡◌, ◌↔◌, ◌⊎◌, ◌++◌, ◌∷◌, Contains, IsTrue, OnErr, []};
 ghost use Rattle.flex_model.specs.Triple.{CoversPair};
 ghost use Rattle.label_bag.specs.Bag.{HasCovering, IsBag, IsBestBy};
 
@@ -72,6 +72,13 @@ impl<T: Copy, A: Allocator> Bag<T, A> {
         take_out(&mut self.entries, at + 1, end + 1, &pair);
         self.longest = self.longest.max(pair.walk);
         Ok(Offered::Added)
+    }
+
+    /// Whether a kept pair covers this one, without memory.
+    pub fn is_covered(&self, pair: &Pair) -> bool
+        ensures { IsTrue result ↔ HasCovering self.now pair.now }
+    {
+        is_covered(self.entries.as_slice(), pair)
     }
 
     /// The latest deadline of the pairs that arrive by then. There is none exactly where no pair

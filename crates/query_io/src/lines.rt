@@ -32,8 +32,8 @@ fn after_escaped(text: &[u8], byte: u8) -> Option<&[u8]>
     }
 }
 
-/// Whether a text is the escape of an id.
-pub fn is_escape_of(text: &str, id: &str) -> bool
+// Whether a text is the escape of an id.
+fn is_escape_of(text: &str, id: &str) -> bool
     ensures { result ≡ bytes_eq text.now (escape id.now) }
 {
     let mut rest = text.as_bytes();

@@ -1,22 +1,21 @@
 use Rattle.std.proofs.Common.{refl, sym, ◌∙◌}
 use Rattle.feed_rules.proofs.KeptTables.{empty, nonempty}
-use Rattle.feed_load.specs.Loads.{no_geo}
 use Rattle.feed_load.proofs.accepted.judge.Goals as goal
 
 pub returns-then-not-is_empty : goal.returns-then-not-is_empty
-returns-then-not-is_empty c = λ folder reads lacks. (
+returns-then-not-is_empty c = λ scan folder reads scans. (
   nonempty c.in_ok-found.found c.in_ok-found.found c.is_empty.result c.is_empty.ensures refl c.if-not-is_empty.true,
-  c.in_ok-found.ensures no_geo folder reads lacks,
+  c.in_ok-found.ensures scan folder reads scans,
 )
 
 pub returns-in-Some : goal.returns-in-Some
-returns-in-Some c = λ folder reads lacks.
-    let none = sym (c.in_ok-found.ensures no_geo folder reads lacks)
+returns-in-Some c = λ scan folder reads scans.
+    let none = sym (c.in_ok-found.ensures scan folder reads scans)
     ∙ empty c.in_ok-found.found c.in_ok-found.found c.is_empty.result c.is_empty.ensures refl c.if-not-is_empty.false in
-    (none, c.in-Some.ensures folder reads lacks none)
+    (none, c.in-Some.ensures scan folder reads scans none)
 
 pub returns : goal.returns
-returns c = λ folder reads lacks.
-    let none = sym (c.in_ok-found.ensures no_geo folder reads lacks)
+returns c = λ scan folder reads scans.
+    let none = sym (c.in_ok-found.ensures scan folder reads scans)
     ∙ empty c.in_ok-found.found c.in_ok-found.found c.is_empty.result c.is_empty.ensures refl c.if-not-is_empty.false in
-    absurd (c.in-None.ensures folder reads lacks none)
+    absurd (c.in-None.ensures scan folder reads scans none)

@@ -1,6 +1,5 @@
 use Rattle.std.proofs.Common.{refl}
 use Rattle.feed_load.specs.FeedTables.{tables_of}
-use Rattle.feed_load.proofs.Texts.{ids_are}
 use Rattle.feed_load.proofs.named_ids.feed_ids.Goals as goal
 
 pub service_ids-requires : goal.service_ids-requires
@@ -10,7 +9,8 @@ pub returns : goal.returns
 returns c =
     let t = c.args.tables in
     record {
-      stops = ids_are t.stops.now "stop_id" c.in_ok-stops.stops c.in_ok-stops.ensures c.requires.stop_ids;
+      stops = c.in_ok-stops.ensures "stop_id" refl c.requires.stop_ids;
+      zones = c.in_ok-zones.ensures c.requires.zone_ids;
       groups = c.in_ok-groups.ensures "location_group_id" refl c.requires.group_ids;
       booking_rules = c.in_ok-booking_rules.ensures "booking_rule_id" refl c.requires.booking_rule_ids;
       services = c.in_ok-services.ensures.found (tables_of t) refl refl;

@@ -1,6 +1,4 @@
-use Rattle.std.proofs.Common.{refl, sym, ◌∙◌, ap}
-use Rattle.std.specs.List.{list_any}
-use Rattle.std.specs.Str.{bytes_eq}
+use Rattle.std.proofs.Common.{refl}
 use Rattle.flex_model.specs.declared.fault.InputFile.TheVariants as Files
 use Rattle.feed_rules.proofs.known_ids.link_ids.Goals as goal
 
@@ -13,6 +11,6 @@ returns c = λ tables is. record {
   stops = c.in_ok-stops.ensures tables Files.Stops "stop_id" refl is.stops;
   stations = c.in_ok-stations.ensures tables is.stops;
   groups = c.in_ok-groups.ensures tables Files.LocationGroups "location_group_id" refl is.groups;
-  zones = λ text given. ap (list_any (bytes_eq text)) c.new-zones.ensures ∙ ap (list_any (λ s. bytes_eq text (s "id"))) (sym is.zones);
+  zones = c.in_ok-zones.ensures tables is.zones;
   booking_rules = c.in_ok-booking_rules.ensures tables Files.BookingRules "booking_rule_id" refl is.booking_rules;
 }

@@ -13,8 +13,8 @@ returns-in-Clean-clause-printed g c =
     let loaded = subst (λ l. IfSome told (λ files. IsLoaded (told_folder files folder) l)) c.in-Clean.is c.in_ok-load.ensures.loaded in
     lint_clean told folder c.in-Clean.field-0 (g.O.Sink.contents c.args.out.now) loaded
 
-pub returns-in-Faulty-clause-printed : goal.returns-in-Faulty-clause-printed
-returns-in-Faulty-clause-printed g c =
+pub returns-clause-printed : goal.returns-clause-printed
+returns-clause-printed g c =
     let told = g.F.Files.told c.args.files.now in
     let folder = c.args.folder.now in
     let faults = c.in-Faulty.faults in

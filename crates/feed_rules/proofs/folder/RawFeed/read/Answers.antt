@@ -1,6 +1,7 @@
 use Rattle.std.proofs.Common.{subst}
 use Rattle.std.proofs.lemmas.Result.{err_from_is_err_and}
 use Rattle.flex_model.specs.declared.fault.InputFile.TheVariants.{Agency, Stops, Routes, Trips, StopTimes, Calendar, CalendarDates, Locations, LocationGroups, LocationGroupStops, BookingRules, Transfers, Frequencies}
+use Rattle.feed_meaning.specs.Told.{IsWithin}
 use Rattle.feed_rules.specs.Folders.{folder_of}
 use Rattle.feed_rules.specs.Found.{IsFound}
 use Rattle.feed_rules.specs.Zones.{AreFoundZones}
@@ -61,6 +62,7 @@ returns c = reads_each _ (folder_of c.args.bytes.now) (record {
   calendar = subst (λ raws. IsFound (folder_of raws Calendar) c.in_ok-read_file-6.field-0) c.bytes.view_is c.in_ok-read_file-6.ensures;
   calendar_dates = subst (λ raws. IsFound (folder_of raws CalendarDates) c.in_ok-read_file-7.field-0) c.bytes.view_is c.in_ok-read_file-7.ensures;
   zones = subst (λ raws. AreFoundZones (folder_of raws Locations) c.in_ok-find_zones.field-0) c.bytes.view_is c.in_ok-find_zones.ensures;
+  counted = subst (λ raws. IsWithin 4294967295 (folder_of raws Locations)) c.bytes.view_is c.bytes.invariant.locations-within;
   location_groups = subst (λ raws. IsFound (folder_of raws LocationGroups) c.in_ok-read_file-8.field-0) c.bytes.view_is c.in_ok-read_file-8.ensures;
   location_group_stops = subst (λ raws. IsFound (folder_of raws LocationGroupStops) c.in_ok-read_file-9.field-0) c.bytes.view_is c.in_ok-read_file-9.ensures;
   booking_rules = subst (λ raws. IsFound (folder_of raws BookingRules) c.in_ok-read_file-10.field-0) c.bytes.view_is c.in_ok-read_file-10.ensures;
