@@ -11,5 +11,4 @@ pub mod DepartureOrder
 pub mod FromPlace
 pub mod LegRuns
 pub mod OfferLists
-pub mod PlaceSpans
 pub mod RideLists

@@ -3,5 +3,4 @@ pub mod Departures
 pub mod Index
 pub mod Legs
 pub mod OfferedRuns
-pub mod Spans
 pub mod TimedRides

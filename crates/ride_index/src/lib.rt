@@ -13,7 +13,6 @@ mod offered_run;
 mod offers;
 mod place_offers;
 mod rides;
-mod spans;
 mod started;
 mod stop_rides;
 mod times;

@@ -11,10 +11,10 @@ use crate::legs::offer_of_leg;
 use crate::offered_run::OfferedRun;
 use crate::offers::{add_offer, may_alight};
 use crate::rides::running_base;
-use crate::spans::spans_from;
 use crate::wanted::Wanted;
 use flex_model::{Moment, NoMemory, Ride, Spot, Timing};
 use service_days::first_travel_day;
+use transfers::spans_from;
 use zone_test::serves;
 
 // The first second of a service day at which one may leave the record.

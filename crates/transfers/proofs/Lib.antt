@@ -1,3 +1,7 @@
 pub mod ChangeRows
+pub mod Numbers
+pub mod PartedRows
+pub mod PlaceSpans
 pub mod RulesFound
+pub mod StopChanges
 pub mod Ways

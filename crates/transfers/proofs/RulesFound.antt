@@ -1,23 +1,14 @@
 -- Looking up the rule for a change by halving a list that rises by its two stops.
 use Rattle.std.proofs.Common.{◌≡◌, ◌⊎◌, ◌↔◌, ℕ, ◌<◌, ◌≤◌, List, Some, None, AllPairs, Contains, Ordering, Less, Equal, Greater, nat_cmp, length, get_or, refl, sym, ◌∙◌, ap, subst, inl, inr, arith}
 use Rattle.std.proofs.lemmas.Bool.{cases_lt}
-use Rattle.std.proofs.lemmas.Bool.Decides.{nat_tests}
 use Rattle.std.specs.List.Sorted.{IsNonDecreasingBy, IsPartitionPoint}
 use Rattle.std.specs.Ordering.{ordering_index, ordering_then}
 use Rattle.flex_model.specs.declared.change.ChangeKind.{ChangeKind}
 use Rattle.flex_model.specs.declared.change.ChangeRow.{ChangeRow}
 use Rattle.flex_model.specs.SoundFeed.{IsChangeBefore}
 use Rattle.transfers.proofs.ChangeRows.{IsRule, absent_kind, found_kind, no_row}
+use Rattle.transfers.proofs.Numbers.{nat_equal, nat_rises, nat_same}
 use Rattle.transfers.specs.ChangeOrder.{change_cmp}
-
-nat_equal : (x y : ℕ) → nat_cmp x y ≡ Equal → x ≡ y
-nat_equal x y e = grind (arith, nat_tests)
-
-nat_same : (x : ℕ) → nat_cmp x x ≡ Equal
-nat_same x = grind (arith, nat_tests)
-
-nat_rises : (x y z : ℕ) → x < y → (nat_cmp x z ≡ Less) ⊎ (nat_cmp y z ≡ Greater)
-nat_rises x y z lt = elim (cases_lt x z) [ inl below ↦ inl (grind (arith, nat_tests)) | inr above ↦ inr (grind (arith, nat_tests)) ]
 
 then_equal : (o p : Ordering) → ordering_then o p ≡ Equal → (o ≡ Equal) × (p ≡ Equal)
 then_equal Less p e = cc

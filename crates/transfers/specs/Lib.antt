@@ -1,1 +1,2 @@
 pub mod ChangeOrder
+pub mod Spans

@@ -1,8 +1,8 @@
 use Rattle.std.proofs.Common.{rules, of_calls}
 use Rattle.std.proofs.lemmas.Fn.{always_returns_same}
-use Rattle.ride_index.specs.Spans.{begins_by}
-use Rattle.ride_index.proofs.PlaceSpans.{parted_by}
-use Rattle.ride_index.proofs.spans.count_by.Goals as goal
+use Rattle.transfers.specs.Spans.{begins_by}
+use Rattle.transfers.proofs.PlaceSpans.{parted_by}
+use Rattle.transfers.proofs.spans.count_by.Goals as goal
 
 pub returns-clause-point : goal.returns-clause-point
 returns-clause-point c =

@@ -1,10 +1,10 @@
-// The direct times from a place.
+// The spans of seconds from a place: direct times, or walks.
 
 ghost use Rattle.std.specs.Prelude.{◌≡◌, ◌↔◌, ◌≤◌, AllPairs, Contains, false, length, true};
 ghost use Rattle.std.specs.List.Sorted.{IsPartitionPoint};
 ghost use Rattle.flex_model.specs.Times.{IsSpanBefore};
 ghost use Rattle.flex_model.specs.declared.times.Span.{Span};
-ghost use Rattle.ride_index.specs.Spans as Spans;
+ghost use Rattle.transfers.specs.Spans as Spans;
 
 use flex_model::{Place, Span};
 
@@ -42,8 +42,9 @@ fn count_by(spans: &[Span], place: Place) -> usize
     spans.partition_point(move |span| begins_by(span, place))
 }
 
-// The spans that begin at the place.
-pub(crate) fn spans_from(spans: &[Span], place: Place) -> &[Span]
+/// The spans that begin at the place, in their order, without memory: of direct times or of walks, which rise by where they
+/// begin. This project's own.
+pub fn spans_from(spans: &[Span], place: Place) -> &[Span]
     requires { AllPairs IsSpanBefore spans.now }
     ensures { (span : Span) → Contains result.now span
         ↔ (Contains spans.now span × (span.from ≡ place)) }
