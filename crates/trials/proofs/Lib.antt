@@ -1,2 +1,1 @@
 pub mod PrintedRides
-pub mod ZoneFeed

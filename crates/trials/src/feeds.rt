@@ -1,6 +1,8 @@
 // Feeds of folders.
 
+use crate::judged::{AGENCY, CALENDAR, DAY_AHEAD, ONE_TRIP, ROUTES, STOPS};
 use crate::samples::{FEED, files_of};
+use crate::zoned::{BY_TEN, ZONE};
 use feed_load::{GivenRow, Loaded, fill_times, is_plain_feed, load};
 use flex_io::LoadError;
 use flex_model::{Fault, FaultCode, Feed, InputFile, Listed, Spot};
@@ -50,6 +52,58 @@ fn an_empty_folder_lacks_files(rt: HostRuntime) -> Result<(), Fail> {
         code: FaultCode::MissingFile,
     };
     assert_eq!(rt; first, Some(agency));
+    Ok(())
+}
+
+// Faults of several tables beside a zone.
+const FAULTY: [(&str, &[u8]); 8] = [
+    AGENCY,
+    (
+        "a/stops.txt",
+        b"stop_id,stop_lat,stop_lon\nM,50.0,5.02\n\"N\nx\",91,5.03\nM,50.0,5.02\n",
+    ),
+    ROUTES,
+    ONE_TRIP,
+    (
+        "a/stop_times.txt",
+        b"trip_id,stop_sequence,location_id,start_pickup_drop_off_window,end_pickup_drop_off_window,pickup_type,drop_off_type,pickup_booking_rule_id,drop_off_booking_rule_id\n\
+          F1,1,Z,08:00:00,,2,1,B,\nF1,2,Z,08:00:00,10:00:00,3,2,,B\n",
+    ),
+    CALENDAR,
+    ZONE,
+    (
+        "a/booking_rules.txt",
+        b"booking_rule_id,booking_type,prior_notice_last_day,prior_notice_last_time\nB,2,1,\n",
+    ),
+];
+
+// A feed without faults, but for the trips that it lacks.
+const NO_TRIPS: [(&str, &[u8]); 7] = [AGENCY, STOPS, ROUTES, BY_TEN, CALENDAR, ZONE, DAY_AHEAD];
+
+#[test]
+fn the_faults_of_a_folder_are_listed(rt: HostRuntime) -> Result<(), Fail> {
+    let several = [
+        (InputFile::Stops, 3, FaultCode::BadCoordinate),
+        (InputFile::Stops, 4, FaultCode::DuplicateKey),
+        (InputFile::StopTimes, 2, FaultCode::WindowPair),
+        (InputFile::StopTimes, 3, FaultCode::WindowPickup),
+        (InputFile::BookingRules, 2, FaultCode::FieldMissing),
+    ];
+    let missing = [(InputFile::Trips, 0, FaultCode::MissingFile)];
+    for (folder, wanted) in [
+        (FAULTY.as_slice(), several.as_slice()),
+        (NO_TRIPS.as_slice(), missing.as_slice()),
+    ] {
+        let mut files = files_of(rt.alloc(), folder)?;
+        let faults = faulty(load(rt.alloc(), &mut files, "a")?).ok_or("a feed")?;
+        let faults = faults.as_slice();
+        assert_eq!(rt; faults.len(), wanted.len());
+        for (fault, (file, row, code)) in faults.iter().zip(wanted) {
+            assert_eq!(rt; fault.file, *file);
+            assert_eq!(rt; fault.row, *row);
+            assert_eq!(rt; fault.code, *code);
+        }
+    }
     Ok(())
 }
 

@@ -28,6 +28,8 @@ mod judged;
 #[cfg(test)]
 mod narrowed;
 #[cfg(test)]
+mod offered;
+#[cfg(test)]
 mod outside;
 #[cfg(test)]
 mod plain_holders;
@@ -48,10 +50,12 @@ mod times_folders;
 #[cfg(test)]
 mod window_runs;
 #[cfg(test)]
-mod zone_feed;
+mod zone_indices;
 #[cfg(test)]
 mod zone_rides;
 #[cfg(test)]
-mod zones;
+mod zone_runs;
+#[cfg(test)]
+mod zoned;
 #[cfg(test)]
 mod zones_of_geojson;

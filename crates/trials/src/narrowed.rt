@@ -76,8 +76,8 @@ const fn arrivals(count: u32) -> Run {
     }
 }
 
-// Whether the run has a departure, and all of them are in the range of those of permitted rides.
-fn is_in_range(run: &Run) -> bool
+/// Whether the run has a departure, and all of them are in the range of those of permitted rides.
+pub(crate) fn is_in_range(run: &Run) -> bool
     ensures some { IsTrue result → 0 < run.now.count }
     ensures departs { IsTrue result → LeavesInRange run.now }
 {

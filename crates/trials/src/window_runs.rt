@@ -7,7 +7,6 @@ use crate::judged::{
     AGENCY, CALENDAR, EIGHT, GROUPS, M, MEMBERS, N, ONE_TRIP, P, ROUTES, STOPS, UTC, june_days,
 };
 use crate::samples::{read_feed, read_times};
-use crate::zone_feed::{at, new_feed, new_times};
 use flex_model::{Arrives, Feed, Moment, Place, Run};
 use flex_trips::flex_run;
 use freq_trips::is_timed;
@@ -15,8 +14,8 @@ use std::alloc::Global;
 use std::process::Abort;
 use std::test::Fail;
 
-// Whether the feed has the two records of its trip, and one of them has a window.
-fn has_window_row(feed: &Feed, trip: u32, from_row: u32, to_row: u32) -> bool
+/// Whether the feed has the two records of its trip, and one of them has a window.
+pub(crate) fn has_window_row(feed: &Feed, trip: u32, from_row: u32, to_row: u32) -> bool
     ensures { IsTrue result → HasWindowRow feed.now trip from_row to_row }
 {
     let Some(trip) = feed.trips.get(trip as usize) else {
@@ -152,42 +151,5 @@ fn a_run_into_a_window_leaves_with_the_trip(rt: HostRuntime) -> Result<(), Fail>
     ] {
         assert_runs(&rt, rt.alloc(), mixed, direct, &[(LEG, None)])?;
     }
-    Ok(())
-}
-
-#[test]
-fn a_run_in_a_zone_begins_at_a_point(rt: HostRuntime) -> Result<(), Fail> {
-    let feed = new_feed(rt.alloc(), 36_000)?;
-    let days = june_days(rt.alloc())?;
-    if !has_window_row(&feed, 0, 0, 1) {
-        return Err("a window".into());
-    }
-    for (seconds, found) in [
-        (600, run(EIGHT, 111, Arrives::After(600))),
-        (7_200, run(EIGHT, 1, Arrives::After(7_200))),
-        (7_201, None),
-    ] {
-        let times = new_times(rt.alloc(), &feed, at(500, 5_000), seconds)?;
-        assert_eq!(rt;
-            flex_run(&feed, &times, &days, 0, 20_243, 0, 1, P, M),
-            found
-        );
-    }
-    let shorter = new_feed(rt.alloc(), 29_400)?;
-    if !has_window_row(&shorter, 0, 0, 1) {
-        return Err("a window".into());
-    }
-    for (seconds, found) in [(600, run(EIGHT, 1, Arrives::After(600))), (601, None)] {
-        let times = new_times(rt.alloc(), &shorter, at(500, 5_000), seconds)?;
-        assert_eq!(rt;
-            flex_run(&shorter, &times, &days, 0, 20_243, 0, 1, P, M),
-            found
-        );
-    }
-    let outside = new_times(rt.alloc(), &feed, at(600, 5_000), 600)?;
-    assert_eq!(rt;
-        flex_run(&feed, &outside, &days, 0, 20_243, 0, 1, P, M),
-        None
-    );
     Ok(())
 }

@@ -2,7 +2,9 @@
 
 use crate::judged::{DAY_BEFORE, EIGHT, M, N, P, RIDE, arrival, june_days};
 use crate::samples::queries_of;
-use crate::zone_feed::{at, new_feed, new_times};
+use crate::zoned::{
+    BY_TEN, BY_TEN_PAST_EIGHT, INSIDE, OUTSIDE, TEN_MINUTES, zone_feed, zone_times,
+};
 use flex_model::{Deadline, JourneyFlaw, Place, Ride, RideFlaw};
 use journey_judge::{judge_journey, judge_ride};
 use std::test::Fail;
@@ -16,8 +18,8 @@ const TO_M: Ride = Ride {
 
 #[test]
 fn a_ride_in_a_zone_takes_the_direct_time(rt: HostRuntime) -> Result<(), Fail> {
-    let feed = new_feed(rt.alloc(), 36_000)?;
-    let times = new_times(rt.alloc(), &feed, at(500, 5_000), 600)?;
+    let feed = zone_feed(rt.alloc(), BY_TEN)?;
+    let times = zone_times(rt.alloc(), &feed, INSIDE, TEN_MINUTES)?;
     let days = june_days(rt.alloc())?;
     let cases = [
         (TO_M, Ok(())),
@@ -84,7 +86,7 @@ fn a_ride_in_a_zone_takes_the_direct_time(rt: HostRuntime) -> Result<(), Fail> {
     for (ride, answer) in cases {
         assert_eq!(rt; judge_ride(&feed, &times, &days, &ride), answer, "{ride:?}");
     }
-    let outside = new_times(rt.alloc(), &feed, at(600, 5_000), 600)?;
+    let outside = zone_times(rt.alloc(), &feed, OUTSIDE, TEN_MINUTES)?;
     assert_eq!(rt;
         judge_ride(&feed, &outside, &days, &TO_M),
         Err(RideFlaw::NotBoarded)
@@ -94,11 +96,16 @@ fn a_ride_in_a_zone_takes_the_direct_time(rt: HostRuntime) -> Result<(), Fail> {
 
 #[test]
 fn a_ride_arrives_in_the_window_of_its_zone(rt: HostRuntime) -> Result<(), Fail> {
-    let feed = new_feed(rt.alloc(), 29_400)?;
+    let feed = zone_feed(rt.alloc(), BY_TEN_PAST_EIGHT)?;
     let days = june_days(rt.alloc())?;
-    let times = new_times(rt.alloc(), &feed, at(500, 5_000), 600)?;
+    let times = zone_times(rt.alloc(), &feed, INSIDE, TEN_MINUTES)?;
     assert_eq!(rt; judge_ride(&feed, &times, &days, &TO_M), Ok(()));
-    let slower = new_times(rt.alloc(), &feed, at(500, 5_000), 601)?;
+    let slower = zone_times(
+        rt.alloc(),
+        &feed,
+        INSIDE,
+        b"from_id,to_id,seconds\nP,M,601\n",
+    )?;
     let late = Ride {
         arrives: EIGHT + 601,
         ..TO_M
@@ -112,8 +119,8 @@ fn a_ride_arrives_in_the_window_of_its_zone(rt: HostRuntime) -> Result<(), Fail>
 
 #[test]
 fn a_journey_in_a_zone_has_its_deadline(rt: HostRuntime) -> Result<(), Fail> {
-    let feed = new_feed(rt.alloc(), 36_000)?;
-    let times = new_times(rt.alloc(), &feed, at(500, 5_000), 600)?;
+    let feed = zone_feed(rt.alloc(), BY_TEN)?;
+    let times = zone_times(rt.alloc(), &feed, INSIDE, TEN_MINUTES)?;
     let days = june_days(rt.alloc())?;
     let records = "P,M,q1,2025-06-04T07:30:00Z,2025-06-03T12:00:00Z,0,240\n\
                    P,M,q2,2025-06-04T07:30:00Z,2025-06-03T12:00:00Z,1,240\n";
