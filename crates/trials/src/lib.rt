@@ -1,8 +1,7 @@
-//! Tests of the public functions of the crates below the program, so that none of those is proved once more for tests.
+//! Tests of the public functions of the crates below the program over whole feeds: days, bookings, rides, journeys, searches, loading.
+//! So none of those crates is proved once more for tests. Those of texts stand in `text_trials`.
 #![tactic(auto)]
 
-#[cfg(test)]
-mod answers;
 #[cfg(test)]
 mod bags;
 #[cfg(test)]
@@ -16,23 +15,13 @@ mod days;
 #[cfg(test)]
 mod feeds;
 #[cfg(test)]
-mod ids;
-#[cfg(test)]
-mod input_files;
-#[cfg(test)]
 mod journeys;
-#[cfg(test)]
-mod json;
 #[cfg(test)]
 mod judged;
 #[cfg(test)]
 mod narrowed;
 #[cfg(test)]
 mod offered;
-#[cfg(test)]
-mod outside;
-#[cfg(test)]
-mod plain_holders;
 #[cfg(test)]
 mod queries;
 #[cfg(test)]
@@ -41,10 +30,6 @@ mod rides;
 mod runs;
 #[cfg(test)]
 mod samples;
-#[cfg(test)]
-mod tables;
-#[cfg(test)]
-mod times_and_numbers;
 #[cfg(test)]
 mod times_folders;
 #[cfg(test)]
@@ -57,5 +42,3 @@ mod zone_rides;
 mod zone_runs;
 #[cfg(test)]
 mod zoned;
-#[cfg(test)]
-mod zones_of_geojson;

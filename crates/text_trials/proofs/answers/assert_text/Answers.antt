@@ -1,8 +1,8 @@
 use Rattle.std.proofs.Common.{lit<, lit≤, refl, subst, sym}
 use Rattle.query_io.specs.Printable.{IsPrintable, IsPrintableAnswer, IsPrintableRide}
 use Rattle.flex_model.proofs.Found.{All-one}
-use Rattle.trials.specs.Printed.{one_answer}
-use Rattle.trials.proofs.answers.assert_text.Goals as goal
+use Rattle.text_trials.specs.Printed.{one_answer}
+use Rattle.text_trials.proofs.answers.assert_text.Goals as goal
 
 pub write_answers-requires : goal.write_answers-requires
 write_answers-requires g c =

@@ -1,6 +1,6 @@
 use Rattle.std.proofs.Common.{rules}
 use Rattle.json_text.proofs.KindFacts.{found_node, has_number, has_object}
-use Rattle.trials.proofs.json.number.Goals as goal
+use Rattle.text_trials.proofs.json.number.Goals as goal
 
 pub member-requires : goal.member-requires
 member-requires c = has_object _ _ c.kind.result c.root-root.ensures.node c.kind.ensures (search rules)

@@ -1,8 +1,8 @@
 use Rattle.std.proofs.Common.{pos, None, arith, subst}
 use Rattle.std.proofs.lemmas.Int.{ints}
-use Rattle.trials.specs.Printed.{HasOneTrip}
-use Rattle.trials.proofs.PrintedRides.{is_printed}
-use Rattle.trials.proofs.answers.a_journey_of_one_ride_is_printed.Goals as goal
+use Rattle.text_trials.specs.Printed.{HasOneTrip}
+use Rattle.text_trials.proofs.PrintedRides.{is_printed}
+use Rattle.text_trials.proofs.answers.a_journey_of_one_ride_is_printed.Goals as goal
 
 pub assert_text-requires-clause-ride : goal.assert_text-requires-clause-ride
 assert_text-requires-clause-ride g c =

@@ -5,7 +5,7 @@ use Rattle.field_text.specs.Texts.{IsPrintableMoment}
 use Rattle.flex_model.specs.declared.feed.Feed.{Feed}
 use Rattle.flex_model.specs.declared.place.Place.TheVariants as place
 use Rattle.flex_model.specs.declared.ride.Ride.{Ride}
-use Rattle.trials.specs.Printed.{HasOneTrip, IsPrinted}
+use Rattle.text_trials.specs.Printed.{HasOneTrip, IsPrinted}
 
 -- from the first record to the second one on 4 June 2025
 abbrev pub ride_at : Option ℕ → ℤ → ℤ → Ride

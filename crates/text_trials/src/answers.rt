@@ -1,7 +1,7 @@
 // The texts of answers.
 
 ghost use Rattle.std.specs.Prelude.{◌≡◌, ◌≢◌, [], ◌∷◌, IfOk, false, length};
-ghost use Rattle.trials.specs.Printed.{HasOneTrip, IsPrinted, one_answer};
+ghost use Rattle.text_trials.specs.Printed.{HasOneTrip, IsPrinted, one_answer};
 
 use flex_model::{
     Answer, Deadline, Feed, Listed, NoMemory, Place, Position, Query, Repeat, Ride, Row, Spot,

@@ -1,0 +1,22 @@
+//! Tests of the public functions of the crates that read and write texts, and of the outside, so that none of those is proved once more
+//! for tests. Those over whole feeds stand in `trials`.
+#![tactic(auto)]
+
+#[cfg(test)]
+mod answers;
+#[cfg(test)]
+mod ids;
+#[cfg(test)]
+mod input_files;
+#[cfg(test)]
+mod json;
+#[cfg(test)]
+mod outside;
+#[cfg(test)]
+mod plain_holders;
+#[cfg(test)]
+mod tables;
+#[cfg(test)]
+mod times_and_numbers;
+#[cfg(test)]
+mod zones_of_geojson;
