@@ -1,2 +1,6 @@
 pub mod Legs
+pub mod PatternMembers
+pub mod PatternNumbers
+pub mod PatternRides
+pub mod PatternTables
 pub mod RunRides

@@ -23,6 +23,8 @@ mod narrowed;
 #[cfg(test)]
 mod offered;
 #[cfg(test)]
+mod patterns;
+#[cfg(test)]
 mod queries;
 #[cfg(test)]
 mod rides;
