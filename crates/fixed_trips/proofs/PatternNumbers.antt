@@ -127,6 +127,12 @@ push_last : {X : Type 0} (xs : List X) (y : X) → slice_get (xs ++ y ∷ []) (l
 push_last [] y = refl
 push_last (z ∷ xs) y = push_last xs y
 
+-- there is an item below the length
+pub item_at : {X : Type 0} (xs : List X) (k : ℕ) → k < length xs → (x : X) × (slice_get xs k ≡ Some x)
+item_at [] k lt = absurd (omega (arith, lt))
+item_at (x ∷ xs) zero lt = (x, refl)
+item_at (x ∷ xs) (suc k) lt = item_at xs k (omega (arith, lt))
+
 -- ---- one more trip
 
 module _ (trips : List Trip) (met new : Met) (patterns : List (Option ℕ)) (trip : Trip) (at : slice_get trips (length patterns) ≡ Some trip)
@@ -343,11 +349,6 @@ count_numbered trips met patterns size all p = (
   λ c.
       let found = index_of patterns (Some p) c in
       let within = slice_get_within patterns found.0 (Some p) found.1 in
-      let trip = there trips found.0 (omega (arith, within, size)) in
+      let trip = item_at trips found.0 (omega (arith, within, size)) in
       all.below p (key_of trip.0) (all.has found.0 p trip.0 trip.1 found.1).1,
 )
-  where
-    there : {X : Type 0} (xs : List X) (k : ℕ) → k < length xs → (x : X) × (slice_get xs k ≡ Some x)
-    there [] k lt = absurd (omega (arith, lt))
-    there (x ∷ xs) zero lt = (x, refl)
-    there (x ∷ xs) (suc k) lt = there xs k (omega (arith, lt))

@@ -1,5 +1,5 @@
 -- The rides of a pattern, by the list of its trips.
-use Rattle.std.proofs.Common.{◌≡◌, ◌↔◌, ℕ, zero, suc, ◌<◌, ℤ, List, [], ◌∷◌, Option, Some, All, Contains, length, slice_get, refl, sym, subst, arith}
+use Rattle.std.proofs.Common.{◌≡◌, ◌↔◌, ℕ, ℤ, List, Option, Some, All, Contains, refl, sym, subst, arith}
 use Rattle.std.proofs.lemmas.Option.{slice_get_within}
 use Rattle.flex_model.specs.declared.feed.Feed.{Feed}
 use Rattle.flex_model.specs.declared.moment.DayTable.{DayTable}
@@ -9,13 +9,8 @@ use Rattle.flex_model.proofs.Found.{All-from_contains}
 use Rattle.fixed_trips.specs.PatternParts.{HasMembers, IsPatternTrip, IsRideOfOne}
 use Rattle.fixed_trips.specs.Patterns.{ArePatternsOf, IsFirst, IsOfPattern, IsPatternRide}
 use Rattle.fixed_trips.specs.declared.members.Member.{Member}
+use Rattle.fixed_trips.proofs.PatternNumbers.{item_at}
 use Rattle.fixed_trips.proofs.PatternRides.{first_same}
-
--- there is an item below the length
-item_at : {X : Type 0} (xs : List X) (k : ℕ) → k < length xs → (x : X) × (slice_get xs k ≡ Some x)
-item_at [] k lt = absurd (omega (arith, lt))
-item_at (x ∷ xs) zero lt = (x, refl)
-item_at (x ∷ xs) (suc k) lt = item_at xs k (omega (arith, lt))
 
 module _ (feed : Feed) (patterns : List (Option ℕ)) (all picked : List Member) (p : ℕ) (table : ArePatternsOf feed patterns) (has : HasMembers patterns all)
     (with_pattern : (m : Member) → Contains picked m ↔ (Contains all m × (m.pattern ≡ p))) where

@@ -115,7 +115,8 @@ pub record IsTable (patterns : List (Option ℕ)) (members : List Member) (count
 
 -- the trip of the feed belongs to a pattern
 abbrev pub IsPatternTrip : Feed → ℕ → Type 0
-IsPatternTrip feed number = (trip : Trip) × (slice_get feed.trips number ≡ Some trip) × HasPattern trip
+IsPatternTrip feed number =
+    (trip : Trip) × (slice_get feed.trips number ≡ Some trip) × HasPattern trip
 
 -- a permitted ride of the trip on the day between these records
 pub record IsTripRide (feed : Feed) (times : Times) (days : DayTable) (trip : ℕ) (day : ℤ)

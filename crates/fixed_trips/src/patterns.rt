@@ -72,7 +72,7 @@ impl PatternTable {
 
     /// Of the permitted rides of the pattern's trips between the two records that leave at or after `earliest`, the one
     /// with the least arrival, then the least trip, and then the least day, without memory. There is none where there is no
-    /// such ride. The feed is that of which the table was built.
+    /// such ride, as where the first of the records isn't before the second. The feed is that of which the table was built.
     pub fn first_from(
         &self,
         feed: &Feed,
@@ -85,7 +85,6 @@ impl PatternTable {
         requires feed { IsSoundFeed feed.now }
         requires days { IsSoundDayTable days.now }
         requires table { ArePatternsOf feed.now self.now }
-        requires rows { from_row < to_row }
         ensures { (times : Times) → IsFirst (IsPatternRide feed.now times days.now self.now pattern
             from_row to_row earliest) result }
     {
