@@ -1,0 +1,203 @@
+-- One offer more in a round.
+use Rattle.std.proofs.Common.{◌≡◌, inl, inr, ℕ, ◌+◌, ◌<◌, pos, ◌+ℤ◌, ◌≤ℤ◌, List, All, slice_index_or, length, refl, sym, ◌∙◌, ap, subst, arith}
+use Rattle.std.specs.Borrow.{Bor}
+use Rattle.std.proofs.lemmas.Bool.{cases_order}
+use Rattle.std.proofs.lemmas.List.{get_or_default}
+use Rattle.std.proofs.lemmas.List.Elements.{Contains-get_or}
+use Rattle.flex_model.specs.declared.moment.Deadline.{Deadline}
+use Rattle.flex_model.specs.Change.{HasEgress}
+use Rattle.flex_model.specs.Deadline.{lesser}
+use Rattle.flex_model.specs.Journey.{limit}
+use Rattle.flex_model.proofs.Orders.{IsNoLater-lesser, IsNoLater_trans, lesser_left, lesser_right}
+use Rattle.flex_model.specs.declared.answer.Pair.{Pair}
+use Rattle.flex_model.specs.Triple.{CoversPair}
+use Rattle.ride_index.specs.declared.active_days.ActiveDays.{ActiveDays}
+use Rattle.ride_index.specs.declared.offered_run.OfferedRun.{OfferedRun}
+use Rattle.ride_index.specs.OfferedRuns.{AreOfferedFrom}
+use Rattle.round_engine.specs.declared.offer.Offer.{Offer}
+use Rattle.round_engine.specs.Offers.{nth_offer, wanted_from}
+use Rattle.round_engine.specs.declared.boarding.Boarding.{Boarding}
+use Rattle.round_engine.specs.declared.label.Label.{Label}
+use Rattle.round_engine.specs.declared.task.Task.{Task}
+use Rattle.round_engine.specs.Attained.{AreEnds, IsEndKept, IsEntry, IsHeldNow, IsLabel, IsOfferFrom, IsRoundState, IsStep, ended, number_of}
+use Rattle.round_engine.specs.Bags.{BagsGrow, Entry, IsKept, IsKeptByAny, IsOffer, bag_at}
+use Rattle.round_engine.specs.Chain.{deadline_up_to, pair_of, place_of}
+use Rattle.round_engine.specs.Made.{made_pair}
+use Rattle.round_engine.specs.Ridden.{AreRidden}
+use Rattle.flex_model.proofs.Orders.{CoversPair_trans}
+
+pub grow_refl : (bags : List (List Entry)) → BagsGrow bags bags
+grow_refl bags = record { count = refl; kept = λ i pair kept. kept }
+
+pub grow_trans : (a b c : List (List Entry)) → BagsGrow a b → BagsGrow b c → BagsGrow a c
+grow_trans a b c p q = record { count = q.count ∙ p.count; kept = λ i pair kept. q.kept i pair (p.kept i pair kept) }
+
+pub kept_by_more : (a b : List (List Entry)) (pair : Pair) → BagsGrow a b → IsKeptByAny a pair → IsKeptByAny b pair
+kept_by_more a b pair grow kept = (kept.0, grow.kept kept.0 pair kept.1)
+
+kept_weaker : (bag : List Entry) (pair other : Pair) → CoversPair pair other → IsKept bag pair → IsKept bag other
+kept_weaker bag pair other covers kept = record { entry = kept.entry; among = kept.among; covers = CoversPair_trans kept.entry.0 pair other kept.covers covers }
+
+module _ (earlier : List (List (List Entry))) where
+  pub held_on : (round ends round' ends' : List (List Entry)) (at : ℕ) (pair : Pair) → BagsGrow round round' → BagsGrow ends ends'
+      → IsHeldNow earlier round ends at pair → IsHeldNow earlier round' ends' at pair
+  held_on round ends round' ends' at pair grow grow' (inl kept) = inl (grow.kept at pair kept)
+  held_on round ends round' ends' at pair grow grow' (inr (inl kept)) = inr (inl (kept_by_more ends ends' pair grow' kept))
+  held_on round ends round' ends' at pair grow grow' (inr (inr kept)) = inr (inr kept)
+
+  pub held_weaker : (round ends : List (List Entry)) (at : ℕ) (pair other : Pair) → CoversPair pair other
+      → IsHeldNow earlier round ends at pair → IsHeldNow earlier round ends at other
+  held_weaker round ends at pair other covers (inl kept) = inl (kept_weaker (bag_at round at) pair other covers kept)
+  held_weaker round ends at pair other covers (inr (inl kept)) = inr (inl (kept.0, kept_weaker _ pair other covers kept.1))
+  held_weaker round ends at pair other covers (inr (inr kept)) = inr (inr (kept.0, kept_weaker _ pair other covers kept.1))
+
+module _ (task : Task) (earlier : List (List (List Entry))) where
+  pub no_step : (round ends : List (List Entry)) → IsRoundState task earlier round ends → IsStep task earlier round ends round ends
+  no_step round ends state = record { state = state; round_grows = grow_refl round; ends_grow = grow_refl ends }
+
+  pub steps : (a a' b b' c c' : List (List Entry)) → IsStep task earlier a a' b b' → IsStep task earlier b b' c c' → IsStep task earlier a a' c c'
+  steps a a' b b' c c' p q = record {
+    state = q.state;
+    round_grows = grow_trans a b c p.round_grows q.round_grows;
+    ends_grow = grow_trans a' b' c' p.ends_grow q.ends_grow;
+  }
+
+  -- an attained label is added
+  pub label_added : (round ends round' ends' : List (List Entry)) (at : ℕ) (pair : Pair) (label : Bor Label) → IsRoundState task earlier round ends
+      → IsLabel task (length earlier + 1) label.now → pair_of label.now ≡ pair → number_of (length task.feed.now.stops) (place_of label.now) ≡ at
+      → AreEnds task ends' → BagsGrow ends ends' → IsEndKept task label.now ends' → IsOffer at (pair, label) round round'
+      → IsStep task earlier round ends round' ends'
+  label_added round ends round' ends' at pair label state is same number are grow kept offer = record {
+    state = record {
+      widths = state.widths;
+      width = offer.grows.count ∙ state.width;
+      count = grow.count ∙ state.count;
+      few = state.few;
+      labels = λ i entry c. elim (offer.came i entry c) [
+        | inl before ↦ state.labels i entry before
+        | inr new ↦ subst (IsEntry task (length earlier + 1) i) (sym new.1) (record { label = is; pair = same; number = number ∙ sym new.0 })
+      ];
+      ended_in_time = λ i seconds entry c egress ends. elim (offer.came i entry c) [
+        | inl before ↦ kept_by_more _ _ (ended task.query.now entry.0 seconds) grow (state.ended_in_time i seconds entry before egress ends)
+        | inr new ↦ subst (λ x. IsKeptByAny ends' (ended task.query.now x.0 seconds)) (sym new.1)
+            (subst (λ p. IsKeptByAny ends' (ended task.query.now p seconds)) same
+            (kept seconds (subst (λ x. HasEgress task.times.now task.query.now (place_of x.1.now) seconds) new.1 egress)
+            (subst (λ p. (p.arrival +ℤ pos seconds) ≤ℤ limit task.query.now) (ap (λ x. x.0) new.1 ∙ sym same) ends)))
+      ];
+      ends_are = are;
+    };
+    round_grows = offer.grows;
+    ends_grow = grow;
+  }
+
+-- what each ride of a run makes of the boarding is held
+abbrev pub IsRunHeld : Task → List (List (List Entry)) → List (List Entry) → List (List Entry) → Boarding → OfferedRun → Type 0
+IsRunHeld task earlier round ends boarding run = (k : ℕ) → k < run.count
+    → IsHeldNow earlier round ends (number_of (length task.feed.now.stops) run.ride.alight) (made_pair boarding (nth_offer run k))
+
+-- each ride of a run is an offer from the boarding
+abbrev pub IsRunFrom : Task → Boarding → OfferedRun → Type 0
+IsRunFrom task boarding run = (k : ℕ) → k < run.count → IsOfferFrom task boarding (nth_offer run k)
+
+-- a ride is covered by the ride of a run that covers it
+module _ (task : Task) (active : Bor ActiveDays) (earlier : List (List (List Entry))) (round ends : List (List Entry)) (boarding : Boarding)
+    (runs : List OfferedRun) where
+  pub all_ridden : AreOfferedFrom (wanted_from task active boarding.place boarding.earliest) runs → All (IsRunHeld task earlier round ends boarding) runs
+      → AreRidden task earlier round ends boarding
+  all_ridden are held ride deadline way leaves =
+      let found = are.whole ride deadline (record {
+        permitted = way.usable.permitted;
+        bookable = way.usable.bookable;
+        booked = way.booked;
+        boards = leaves.boards;
+        alights = way.alights;
+        leaves = leaves.leaves;
+        arrives = way.arrives;
+      }) in
+      let run : OfferedRun = found.run in
+      let at = found.among in
+      let least : Deadline = deadline_up_to boarding.parent in
+      let offer : Offer = nth_offer run found.at in
+      let wanted : Offer = record { ride = ride; deadline = deadline } in
+      let covers : CoversPair (made_pair boarding offer) (made_pair boarding wanted) = record {
+        deadline = IsNoLater-lesser (lesser least deadline) least offer.deadline (lesser_left least deadline)
+            (IsNoLater_trans (lesser least deadline) deadline offer.deadline (lesser_right least deadline) found.booked);
+        arrival = found.arrives;
+        walk = omega arith;
+      } in
+      held_weaker earlier round ends (number_of (length task.feed.now.stops) ride.alight) (made_pair boarding offer) (made_pair boarding wanted) covers
+      (subst (λ p. IsHeldNow earlier round ends (number_of (length task.feed.now.stops) p) (made_pair boarding offer)) found.alights
+      ((subst (IsRunHeld task earlier round ends boarding) at.2 (held at.0 run at.1)) found.at found.low))
+
+-- The first rides of a run are taken in.
+pub record IsRunTaken (task : Task) (earlier : List (List (List Entry))) (boarding : Boarding) (run : OfferedRun)
+    (a a' b b' : List (List Entry)) (n : ℕ) : Type 0 where
+  pub step : IsStep task earlier a a' b b'
+  pub held : (k : ℕ) → k < n
+      → IsHeldNow earlier b b' (number_of (length task.feed.now.stops) run.ride.alight) (made_pair boarding (nth_offer run k))
+
+-- The first runs are taken in.
+pub record AreTaken (task : Task) (earlier : List (List (List Entry))) (boarding : Boarding) (runs : List OfferedRun)
+    (a a' b b' : List (List Entry)) (n : ℕ) : Type 0 where
+  pub step : IsStep task earlier a a' b b'
+  pub held : (j : ℕ) (d : OfferedRun) → j < n → IsRunHeld task earlier b b' boarding (slice_index_or runs j d)
+
+-- The rides after the first boardings are held.
+pub record AreRiddenTo (task : Task) (earlier : List (List (List Entry))) (boardings : List Boarding)
+    (a a' b b' : List (List Entry)) (n : ℕ) : Type 0 where
+  pub step : IsStep task earlier a a' b b'
+  pub ridden : (j : ℕ) (d : Boarding) → j < n → AreRidden task earlier b b' (slice_index_or boardings j d)
+
+module _ (task : Task) (earlier : List (List (List Entry))) (a a' b b' c c' : List (List Entry)) (n : ℕ) where
+  pub run_more : (boarding : Boarding) (run : OfferedRun) → IsRunTaken task earlier boarding run a a' b b' n → IsStep task earlier b b' c c'
+      → IsHeldNow earlier c c' (number_of (length task.feed.now.stops) run.ride.alight) (made_pair boarding (nth_offer run n))
+      → IsRunTaken task earlier boarding run a a' c c' (n + 1)
+  run_more boarding run taken step held = record {
+    step = steps task earlier a a' b b' c c' taken.step step;
+    held = λ k less. elim (cases_order k n) [
+      | inl same ↦ subst (λ m. IsHeldNow earlier c c' (number_of (length task.feed.now.stops) run.ride.alight) (made_pair boarding (nth_offer run m))) (sym same) held
+      | inr (inl before) ↦ held_on earlier b b' c c' _ _ step.round_grows step.ends_grow (taken.held k before)
+      | inr (inr after) ↦ absurd (omega arith)
+    ];
+  }
+
+  pub taken_more : (boarding : Boarding) (runs : List OfferedRun) (dummy : OfferedRun) → n < length runs → AreTaken task earlier boarding runs a a' b b' n
+      → IsStep task earlier b b' c c' → IsRunHeld task earlier c c' boarding (slice_index_or runs n dummy)
+      → AreTaken task earlier boarding runs a a' c c' (n + 1)
+  taken_more boarding runs dummy lt taken step held = record {
+    step = steps task earlier a a' b b' c c' taken.step step;
+    held = λ j d less. elim (cases_order j n) [
+      | inl same ↦ subst (IsRunHeld task earlier c c' boarding)
+          (get_or_default runs n dummy d lt ∙ ap (λ m. slice_index_or runs m d) (sym same)) held
+      | inr (inl before) ↦ λ k low. held_on earlier b b' c c' _ _ step.round_grows step.ends_grow (taken.held j d before k low)
+      | inr (inr after) ↦ absurd (omega arith)
+    ];
+  }
+
+  pub ridden_more : (boardings : List Boarding) (boarding : Boarding) → n < length boardings → AreRiddenTo task earlier boardings a a' b b' n
+      → IsStep task earlier b b' c c' → boarding ≡ slice_index_or boardings n boarding → AreRidden task earlier c c' boarding
+      → AreRiddenTo task earlier boardings a a' c c' (n + 1)
+  ridden_more boardings boarding lt taken step is ridden = record {
+    step = steps task earlier a a' b b' c c' taken.step step;
+    ridden = λ j d less. elim (cases_order j n) [
+      | inl same ↦ subst (λ o. AreRidden task earlier c c' o)
+          (is ∙ get_or_default boardings n boarding d lt ∙ ap (λ m. slice_index_or boardings m d) (sym same)) ridden
+      | inr (inl before) ↦ λ ride deadline way leaves. held_on earlier b b' c c' _ _ step.round_grows step.ends_grow (taken.ridden j d before ride deadline way leaves)
+      | inr (inr after) ↦ absurd (omega arith)
+    ];
+  }
+
+-- runs that are offered from a boarding
+pub runs_from_boarding : (task : Task) (active : Bor ActiveDays) (boarding : Boarding) (runs : List OfferedRun)
+    → AreOfferedFrom (wanted_from task active boarding.place boarding.earliest) runs → All (IsRunFrom task boarding) runs
+runs_from_boarding task active boarding runs are = λ j d lt k low.
+    let wanted = are.each (slice_index_or runs j d) k (Contains-get_or runs j d lt) low in
+    record {
+      on_the_way = record {
+        usable = record { permitted = wanted.permitted; bookable = wanted.bookable };
+        booked = wanted.booked;
+        alights = wanted.alights;
+        arrives = wanted.arrives;
+      };
+      leaves = record { boards = wanted.boards; leaves = wanted.leaves };
+    }

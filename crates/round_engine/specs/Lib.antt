@@ -1,0 +1,11 @@
+pub mod Attained
+pub mod Bags
+pub mod Boardings
+pub mod Chain
+pub mod Flat
+pub mod Made
+pub mod Offers
+pub mod Ridden
+pub mod Search
+pub mod Searched
+pub mod Table
