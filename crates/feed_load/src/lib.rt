@@ -13,7 +13,6 @@ mod groups;
 mod linear_times;
 mod named_ids;
 mod open_trips;
-mod plain;
 mod repeats;
 mod stops;
 mod tables;
@@ -24,4 +23,3 @@ mod zones;
 
 pub use folder::{Loaded, load};
 pub use linear_times::{GivenRow, fill_times};
-pub use plain::is_plain_feed;

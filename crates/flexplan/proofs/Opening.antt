@@ -17,7 +17,7 @@ use Rattle.place_times.specs.declared.folder.LoadedTimes.TheVariants as loaded
 use Rattle.query_io.specs.Reads.{AreRead}
 use Rattle.query_io.specs.declared.queries.ReadQueries.{ReadQueries}
 use Rattle.query_io.specs.declared.queries.ReadQueries.TheVariants.{Clean}
-use Rattle.flexplan.specs.Input.{IsNotBuilt, IsPlannedFor, feed, feed_folder, query_file, times, times_folder}
+use Rattle.flexplan.specs.Input.{IsAccepted, feed, feed_folder, queries, query_file, times, times_folder}
 use Rattle.feed_meaning.specs.Locations.{zones_of}
 use Rattle.feed_load.specs.Loads.{IsLoaded}
 use Rattle.feed_load.specs.declared.folder.Loaded.TheVariants as feed_loaded
@@ -66,18 +66,13 @@ queries_there geo files paths held its bases raw read holds raw_is is =
     subst (λ x. AreRead x (times geo files paths) (query_file files paths) read) holds.1
     (subst (λ x. AreRead held x (query_file files paths) read) holds.2 (subst (λ x. AreRead held its x read) raw_is is))
 
--- the input is accepted, and not planned for
-pub with_other_form : (geo : Geo) (files : FileMap) (paths : InputPaths) (held : Feed) (its : Times) (bases : List ℤ) (raw : RawFile) (read : List Query)
-    → HoldsTimes geo files paths held its bases → raw ≡ query_file files paths → AreRead held its raw (Clean read) → (IsPlannedFor held its read → ⊥)
-    → IsNotBuilt geo files paths
-with_other_form geo files paths held its bases raw read holds raw_is is other =
-    let told = queries_there geo files paths held its bases raw (Clean read) holds raw_is is in (
-      bases,
-      record { accepted = holds.0; none = told.0 },
-      (λ planned.
-          other (subst (λ x. IsPlannedFor x its read) (sym holds.1)
-          (subst (λ x. IsPlannedFor (feed geo files paths) x read) (sym holds.2) (subst (IsPlannedFor (feed geo files paths) (times geo files paths)) (sym told.1) planned)))),
-    )
+-- the input is accepted, with the queries that were read
+pub with_queries : (geo : Geo) (files : FileMap) (paths : InputPaths) (held : Feed) (its : Times) (bases : List ℤ) (raw : RawFile) (read : List Query)
+    → HoldsTimes geo files paths held its bases → raw ≡ query_file files paths → AreRead held its raw (Clean read)
+    → IsAccepted geo files paths bases × (read ≡ queries geo files paths)
+with_queries geo files paths held its bases raw read holds raw_is is =
+    let told = queries_there geo files paths held its bases raw (Clean read) holds raw_is is in
+    (record { accepted = holds.0; none = told.0 }, told.1)
 
 -- by each way to read locations.geojson that its scans give, the feed is accepted
 pub with_feed : {E : Type 0} (files : FileMap) (paths : InputPaths) (held : Feed) (r : Result Opened E) → IsLoaded (feed_folder files paths) (feed_loaded.Clean held)

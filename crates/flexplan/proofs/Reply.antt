@@ -24,7 +24,6 @@ use Rattle.flexplan.specs.Texts.{Prints, PrintsAll}
 use Rattle.flexplan.specs.Words.{InputPaths, Request, lint, plan}
 use Rattle.flexplan.specs.declared.input.Input as declared
 use Rattle.flexplan.specs.declared.input.Opened.TheVariants.{Accepted, Refused}
-use Rattle.flexplan.specs.declared.input.Opened.TheVariants as opened
 use Rattle.flexplan.specs.declared.status.Status.{Status}
 use Rattle.flexplan.specs.declared.status.Status.TheVariants as status
 use Rattle.flexplan.specs.declared.status.Failure.{Failure}
@@ -48,7 +47,6 @@ right_printed request files status.FeedFaulty bytes _ right = right
 right_printed request files status.TimesFaulty bytes _ right = right
 right_printed request files status.QueriesFaulty bytes _ right = right
 right_printed request files status.CertRefused bytes _ right = right
-right_printed request files status.NotBuilt bytes _ right = right
 right_printed request files status.Usage bytes none right = absurd none
 right_printed request files status.ReadFault bytes none right = absurd none
 right_printed request files status.WriteFault bytes none right = absurd none
@@ -107,7 +105,6 @@ refused_as geo files paths status.CertRefused faults none = absurd none
 refused_as geo files paths status.ReadFault faults none = absurd none
 refused_as geo files paths status.WriteFault faults none = absurd none
 refused_as geo files paths status.NoMemory faults none = absurd none
-refused_as geo files paths status.NotBuilt faults none = absurd none
 
 pub plan_refused : (told : Option FileMap) (paths : InputPaths) (s : Status) (faults : List Fault) → IfSome told (λ files. IsOpened files paths (Refused s faults)) → IfSome told (λ files. IsReply (plan paths) files s (fault_lines faults ∷ []))
 plan_refused told paths s faults is = if_told told _ _ is (λ files refused. λ scan scans. refused_as (zones_of scan) files paths s faults (refused scan scans))
@@ -119,17 +116,11 @@ plan_accepted told paths input is =
     let geo : Geo = zones_of scan in
     let held = opened scan scans in (
       input.zone,
-      held.built,
+      held.accepted,
       ap (λ f. map (answer f input.times input.zone) input.queries) held.feed
           ∙ ap (λ t. map (answer (feed geo files paths) t input.zone) input.queries) held.times
           ∙ ap (map (answer (feed geo files paths) (times geo files paths) input.zone)) held.queries,
     ))
-
--- nothing was printed of input that isn't planned for
-pub plan_not_built : (told : Option FileMap) (paths : InputPaths) (before : Option (List ℕ)) → IfSome told (λ files. IsOpened files paths opened.NotBuilt)
-    → PrintsRight (plan paths) told status.NotBuilt before before
-plan_not_built told paths before is =
-    if_told told _ _ is (λ files unbuilt. gains_nothing before _ ([], (λ scan scans. (unbuilt scan scans, refl)), refl))
 
 pub refusal_finishes : (s : Status) (faults : List Fault) → IsSoundOpening (Refused s faults) → IsFinished s
 refusal_finishes status.QueriesFaulty faults _ = tt
@@ -141,7 +132,6 @@ refusal_finishes status.Usage faults none = absurd none
 refusal_finishes status.ReadFault faults none = absurd none
 refusal_finishes status.WriteFault faults none = absurd none
 refusal_finishes status.NoMemory faults none = absurd none
-refusal_finishes status.NotBuilt faults none = absurd none
 
 -- a feed without faults prints nothing
 pub lint_clean : (told : Option FileMap) (folder : List ℕ) (held : Feed) (before : Option (List ℕ)) → IfSome told (λ files. IsLoaded (told_folder files folder) (Clean held))

@@ -7,6 +7,8 @@ use Rattle.flex_model.specs.declared.feed.Feed.{Feed}
 use Rattle.flex_model.specs.declared.query.Query.{Query}
 use Rattle.flex_model.specs.declared.times.Times.{Times}
 use Rattle.query_io.specs.AnswerText.{answer_text}
+use Rattle.round_engine.specs.Chain.{rides_of}
+use Rattle.round_engine.specs.declared.label.Final.{Final}
 use Rattle.service_days.specs.Bases.{table_of}
 use Rattle.flexplan.specs.Faults.{text_of}
 
@@ -24,3 +26,7 @@ IsAnswerText feed times bases query text =
 abbrev pub RightText : Piece → List ℕ → Type 0
 RightText (fault_lines faults) text = text ≡ text_of faults
 RightText (answer feed times bases query) text = IsAnswerText feed times bases query text
+
+-- the answer that a final of a search is, with the rides of its label
+abbrev pub answer_of : Final → Answer
+answer_of best = record { triple = best.triple; rides = rides_of best.label.now }

@@ -1,5 +1,5 @@
--- The input that told files give, and which of it is planned for by now.
-use Rattle.std.specs.Prelude.{◌≡◌, ℤ, List, [], All, Option, Some}
+-- The input that told files give, and when it is accepted.
+use Rattle.std.specs.Prelude.{◌≡◌, ℤ, List, [], Option, Some}
 use Rattle.flex_io.specs.Outside.{FileMap}
 use Rattle.flex_model.specs.declared.fault.Fault.{Fault}
 use Rattle.flex_model.specs.declared.fault.InputFile.TheVariants.{Queries, ZoneText, ZoneTzif}
@@ -7,7 +7,6 @@ use Rattle.flex_model.specs.declared.fault.RawFile.{RawFile}
 use Rattle.flex_model.specs.declared.feed.Feed.{Feed}
 use Rattle.flex_model.specs.declared.query.Query.{Query}
 use Rattle.flex_model.specs.declared.times.Times.{Times}
-use Rattle.flex_model.specs.PlainFeed.{IsPlainFeed}
 use Rattle.feed_meaning.specs.FeedFaults.{Geo, feed_faults}
 use Rattle.feed_meaning.specs.FeedValue.{feed_of}
 use Rattle.feed_meaning.specs.Folder.{Folder}
@@ -18,12 +17,6 @@ use Rattle.feed_meaning.specs.Files.{byte_limit}
 use Rattle.feed_meaning.specs.Told.{told_file, told_folder}
 use Rattle.place_times.specs.Loads.{IsZoneFound, judged_by}
 use Rattle.flexplan.specs.Words.{InputPaths}
-
--- The form that is planned for: scheduled trips without bookings, without walks, and queries without transfers.
-pub record IsPlannedFor (feed : Feed) (times : Times) (queries : List Query) : Type 0 where
-  pub plain : IsPlainFeed feed
-  pub walks : times.walks ≡ []
-  pub direct : All (λ query. query.transfers ≡ 0) queries
 
 -- the fault list of a feed folder, by how locations.geojson is read
 abbrev pub faults_of_feed : Geo → Folder → List Fault
@@ -76,12 +69,3 @@ module _ (geo : Geo) (files : FileMap) (paths : InputPaths) where
   pub record IsAccepted (bases : List ℤ) : Type 0 where
     pub accepted : AreTimesAccepted bases
     pub none : faults_of_queries ≡ []
-
-  -- accepted input of the form that is planned for
-  pub record IsBuilt (bases : List ℤ) : Type 0 where
-    pub accepted : IsAccepted bases
-    pub planned : IsPlannedFor feed times queries
-
-  -- accepted input of another form
-  abbrev pub IsNotBuilt : Type 0
-  IsNotBuilt = (bases : List ℤ) × IsAccepted bases × (IsPlannedFor feed times queries → ⊥)

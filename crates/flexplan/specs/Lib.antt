@@ -1,13 +1,11 @@
 pub mod Answers
-pub mod Boarding
-pub mod Candidate
-pub mod Earliest
 pub mod ErrorLine
 pub mod ExitNumber
 pub mod Failures
 pub mod Faults
 pub mod Input
 pub mod Opened
+pub mod Pieces
 pub mod Reply
 pub mod Texts
 pub mod Words

@@ -1,7 +1,6 @@
 -- What opening the input of `plan` gives.
 use Rattle.std.specs.Prelude.{◌≡◌, ◌≢◌, ℕ, ℤ, List, [], All, Option}
 use Rattle.flex_io.specs.Outside.{FileMap}
-use Rattle.flex_model.specs.PlainFeed.{IsPlainFeed}
 use Rattle.flex_model.specs.SoundFeed.{IsSoundFeed}
 use Rattle.flex_model.specs.SoundQuery.{IsSoundQuery}
 use Rattle.flex_model.specs.SoundTimes.{AreSoundTimes}
@@ -11,11 +10,11 @@ use Rattle.flex_model.specs.declared.times.Times.{Times}
 use Rattle.feed_meaning.specs.FeedFaults.{Geo}
 use Rattle.feed_meaning.specs.Locations.{Scan, zones_of}
 use Rattle.feed_rules.specs.Zones.{ScansFolder}
-use Rattle.flexplan.specs.Input.{AreTimesAccepted, FindsZone, IsBuilt, IsFeedAccepted, IsNotBuilt, faults_of_feed, faults_of_queries, faults_of_times, feed, feed_folder, queries, times}
+use Rattle.flexplan.specs.Input.{AreTimesAccepted, FindsZone, IsAccepted, IsFeedAccepted, faults_of_feed, faults_of_queries, faults_of_times, feed, feed_folder, queries, times}
 use Rattle.flexplan.specs.Words.{InputPaths}
 use Rattle.flexplan.specs.declared.input.Input as declared
 use Rattle.flexplan.specs.declared.input.Opened.{Opened}
-use Rattle.flexplan.specs.declared.input.Opened.TheVariants.{Accepted, Refused, NotBuilt}
+use Rattle.flexplan.specs.declared.input.Opened.TheVariants.{Accepted, Refused}
 use Rattle.flexplan.specs.declared.status.Status.{Status}
 use Rattle.flexplan.specs.declared.status.Status.TheVariants.{FeedFaulty, TimesFaulty, QueriesFaulty}
 
@@ -45,17 +44,15 @@ HoldsTimes geo files paths held its bases =
 -- the feed, the times, the zone and the queries are those of the bytes
 pub record HoldsInput (geo : Geo) (files : FileMap) (paths : InputPaths)
     (input : declared.Input) : Type 0 where
-  pub built : IsBuilt geo files paths input.zone
+  pub accepted : IsAccepted geo files paths input.zone
   pub «feed» : input.feed ≡ feed geo files paths
   pub «times» : input.times ≡ times geo files paths
   pub «queries» : input.queries ≡ queries geo files paths
 
--- The input is accepted with these values, or refused with these faults, or of another form, by how locations.geojson is
--- read.
+-- The input is accepted with these values, or refused with these faults, by how locations.geojson is read.
 abbrev pub IsOpenedBy : Geo → FileMap → InputPaths → Opened → Type 0
 IsOpenedBy geo files paths (Accepted input) = HoldsInput geo files paths input
 IsOpenedBy geo files paths (Refused status faults) = IsRefused geo files paths status faults
-IsOpenedBy geo files paths NotBuilt = IsNotBuilt geo files paths
 
 -- in whichever way that agrees with the grammar of JSON its text is scanned
 abbrev pub IsOpened : FileMap → InputPaths → Opened → Type 0
@@ -63,14 +60,11 @@ IsOpened files paths opened =
     (scan : List ℕ → Scan) → ScansFolder scan (feed_folder files paths)
     → IsOpenedBy (zones_of scan) files paths opened
 
--- told or not, what is planned for is sound, of scheduled trips without walks and transfers
+-- told or not, what is accepted is sound
 pub record IsSoundInput (input : declared.Input) : Type 0 where
   pub «feed» : IsSoundFeed input.feed
-  pub plain : IsPlainFeed input.feed
   pub «times» : AreSoundTimes input.feed input.times
-  pub walks : input.times.walks ≡ []
   pub each : All (IsSoundQuery input.feed input.times) input.queries
-  pub direct : All (λ query. query.transfers ≡ 0) input.queries
 
 abbrev pub IsSoundOpening : Opened → Type 0
 IsSoundOpening (Accepted input) = IsSoundInput input
@@ -78,4 +72,3 @@ IsSoundOpening (Refused FeedFaulty faults) = Unit {0}
 IsSoundOpening (Refused TimesFaulty faults) = Unit {0}
 IsSoundOpening (Refused QueriesFaulty faults) = Unit {0}
 IsSoundOpening (Refused _ faults) = ⊥
-IsSoundOpening NotBuilt = Unit {0}

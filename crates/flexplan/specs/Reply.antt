@@ -9,12 +9,12 @@ use Rattle.feed_meaning.specs.Locations.{Scan, zones_of}
 use Rattle.feed_meaning.specs.Told.{told_folder}
 use Rattle.feed_rules.specs.Zones.{ScansFolder}
 use Rattle.flexplan.specs.Words.{InputPaths, Request, plan, lint}
-use Rattle.flexplan.specs.Input.{AreTimesAccepted, FindsZone, IsBuilt, IsFeedAccepted, IsNotBuilt, faults_of_feed, faults_of_queries, faults_of_times, feed, feed_folder, queries, times}
+use Rattle.flexplan.specs.Input.{AreTimesAccepted, FindsZone, IsAccepted, IsFeedAccepted, faults_of_feed, faults_of_queries, faults_of_times, feed, feed_folder, queries, times}
 use Rattle.flexplan.specs.Answers.{Piece, fault_lines, answer, RightText}
 use Rattle.flexplan.specs.Texts.{Texts}
 use Rattle.flexplan.specs.Failures.{failure_of_put}
 use Rattle.flexplan.specs.declared.status.Status.{Status}
-use Rattle.flexplan.specs.declared.status.Status.TheVariants.{Done, Usage, FeedFaulty, TimesFaulty, QueriesFaulty, CertRefused, ReadFault, WriteFault, NoMemory, NotBuilt}
+use Rattle.flexplan.specs.declared.status.Status.TheVariants.{Done, Usage, FeedFaulty, TimesFaulty, QueriesFaulty, CertRefused, ReadFault, WriteFault, NoMemory}
 use Rattle.flexplan.specs.declared.status.Failure.{Failure}
 use Rattle.flexplan.specs.declared.status.Failure.TheVariants as failure
 
@@ -29,7 +29,7 @@ AreFaultLines faults pieces = (faults ≢ []) × (pieces ≡ fault_lines faults 
 
 -- the status and the pieces that are right for `plan`, by how locations.geojson is read
 abbrev pub IsPlanReply : Geo → FileMap → InputPaths → Status → List Piece → Type 0
-IsPlanReply geo files paths Done pieces = (bases : List ℤ) × IsBuilt geo files paths bases
+IsPlanReply geo files paths Done pieces = (bases : List ℤ) × IsAccepted geo files paths bases
     × (pieces ≡ answers_of geo files paths bases)
 IsPlanReply geo files paths FeedFaulty pieces =
     AreFaultLines (faults_of_feed geo (feed_folder files paths)) pieces
@@ -39,7 +39,6 @@ IsPlanReply geo files paths TimesFaulty pieces =
 IsPlanReply geo files paths QueriesFaulty pieces =
     ((bases : List ℤ) × AreTimesAccepted geo files paths bases)
     × AreFaultLines (faults_of_queries geo files paths) pieces
-IsPlanReply geo files paths NotBuilt pieces = IsNotBuilt geo files paths × (pieces ≡ [])
 IsPlanReply geo files paths _ pieces = ⊥
 
 -- the status and the pieces that are right for `lint`, likewise
@@ -84,7 +83,6 @@ MayHavePrinted request files FeedFaulty bytes = IsRight request files FeedFaulty
 MayHavePrinted request files TimesFaulty bytes = IsRight request files TimesFaulty bytes
 MayHavePrinted request files QueriesFaulty bytes = IsRight request files QueriesFaulty bytes
 MayHavePrinted request files CertRefused bytes = IsRight request files CertRefused bytes
-MayHavePrinted request files NotBuilt bytes = IsRight request files NotBuilt bytes
 
 -- where files are told, what a sink gained is what may have been printed for them
 abbrev pub PrintsRight : Request → Option FileMap → Status → Option (List ℕ) → Option (List ℕ)
@@ -99,7 +97,6 @@ IsFinished FeedFaulty = Unit {0}
 IsFinished TimesFaulty = Unit {0}
 IsFinished QueriesFaulty = Unit {0}
 IsFinished CertRefused = Unit {0}
-IsFinished NotBuilt = Unit {0}
 IsFinished _ = ⊥
 
 -- the status by which a command ended

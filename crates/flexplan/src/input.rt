@@ -1,17 +1,16 @@
 // The input of `plan`: its files, fetched in order and read.
 
-ghost use Rattle.std.specs.Prelude.{◌≡◌, ◌≢◌, ◌≤◌, ◌↔◌, All, Err, IfOk, IfSome, IsErrOf, IsTrue};
+ghost use Rattle.std.specs.Prelude.{◌≡◌, ◌≢◌, ◌≤◌, Err, IfOk, IfSome, IsErrOf};
 ghost use Rattle.flex_io.specs.Outside.{HasFailed};
 ghost use Rattle.flex_model.specs.SoundFeed.{IsSoundFeed};
 ghost use Rattle.flex_model.specs.SoundTimes.{AreSoundTimes};
 ghost use Rattle.feed_meaning.specs.FeedFaults.{Geo};
-ghost use Rattle.flexplan.specs.Input.{IsPlannedFor};
 ghost use Rattle.flexplan.specs.Opened.{HoldsFeed, HoldsTimes, IsOpened, IsOpenedBy, IsSoundOpening};
 ghost use Rattle.flexplan.specs.Words.{InputPaths, paths};
 
 use crate::status::Status;
 use crate::words::Paths;
-use feed_load::{Loaded, is_plain_feed, load};
+use feed_load::{Loaded, load};
 use feed_meaning::{byte_limit, fetch_file};
 use flex_io::{Files, LoadError};
 use flex_model::{Fault, Feed, InputFile, Listed, Query, Times};
@@ -32,26 +31,10 @@ pub struct Input {
 /// What the files of `plan` hold.
 #[derive(Drop)]
 pub enum Opened {
-    /// Accepted input of the form that is planned for.
+    /// Input without faults.
     Accepted(Input),
     /// The faults of the first part of the input that has some, with its status.
     Refused(Status, Listed<Fault>),
-    /// Input of a form that isn't planned for yet.
-    NotBuilt,
-}
-
-// Whether no query allows a transfer.
-fn are_direct(queries: &[Query]) -> bool
-    ensures { IsTrue result ↔ All (λ query. query.transfers ≡ 0) queries.now }
-{
-    queries.iter().all(|query| query.transfers == 0)
-}
-
-// Whether accepted input is of the form that is planned for.
-fn is_planned_for(feed: &Feed, times: &Times, queries: &Listed<Query>) -> bool
-    ensures { IsTrue result ↔ IsPlannedFor feed.now times.now queries.now }
-{
-    is_plain_feed(feed) && times.walks.is_empty() && are_direct(queries.as_slice())
 }
 
 // Reads the queries of input whose feed and times are accepted.
@@ -83,9 +66,6 @@ fn open_queries<F: Files>(
     match read_queries(alloc, &raw, &feed, &times)? {
         ReadQueries::Faulty(faults) => Ok(Opened::Refused(Status::QueriesFaulty, faults)),
         ReadQueries::Clean(queries) => {
-            if !is_planned_for(&feed, &times, &queries) {
-                return Ok(Opened::NotBuilt);
-            }
             Ok(Opened::Accepted(Input {
                 feed,
                 times,

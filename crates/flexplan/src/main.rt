@@ -4,6 +4,7 @@
 mod answers;
 mod faults;
 mod input;
+mod laws;
 mod run;
 mod search;
 mod status;
@@ -43,5 +44,7 @@ fn run_words(rt: HostRuntime, args: env::Args) -> Result<Status, AllocError> {
 
 #[cfg(test)]
 mod lint_tests;
+#[cfg(test)]
+mod plan_tests;
 #[cfg(test)]
 mod tests;

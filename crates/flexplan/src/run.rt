@@ -53,7 +53,6 @@ fn perform_plan<F: Files, O: Sink>(
         Opened::Refused(status, faults) => {
             ended(status, print_faults(alloc, faults.as_slice(), out))
         }
-        Opened::NotBuilt => Ok(Status::NotBuilt),
     }
 }
 

@@ -28,8 +28,6 @@ pub enum Status {
     WriteFault,
     /// Memory ran out.
     NoMemory,
-    /// The input is of a form that isn't built yet.
-    NotBuilt,
 }
 
 impl Status {
@@ -47,7 +45,6 @@ impl Status {
             Status::ReadFault => 6,
             Status::WriteFault => 7,
             Status::NoMemory => 8,
-            Status::NotBuilt => 9,
         }
     }
 }

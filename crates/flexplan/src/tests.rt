@@ -122,7 +122,7 @@ fn each_query_is_answered(rt: HostRuntime) -> Result<(), Fail> {
     Ok(())
 }
 
-// There are no walks in what is planned for, so each counts 0.
+// On a ride without walks each counts 0.
 #[test]
 fn walking_is_told_where_it_is_asked_for(rt: HostRuntime) -> Result<(), Fail> {
     let alloc = rt.alloc();
@@ -215,42 +215,7 @@ fn ids_may_have_any_byte(rt: HostRuntime) -> Result<(), Fail> {
 }
 
 #[test]
-fn other_input_is_not_planned_for(rt: HostRuntime) -> Result<(), Fail> {
-    let alloc = rt.alloc();
-    for (path, text) in [
-        (
-            "a/locations.geojson",
-            "{\"type\":\"FeatureCollection\",\"features\":[{\"type\":\"Feature\",\"id\":\"Z\",\"geometry\":{\"type\":\"Polygon\",\"coordinates\":[[[4,49],[6,49],[6,51],[4,49]]]}}]}",
-        ),
-        (
-            "a/stop_times.txt",
-            "trip_id,stop_sequence,stop_id,arrival_time,departure_time,pickup_type\nT,1,M,08:00:00,08:00:00,2\nT,2,N,08:20:00,08:20:00,\n",
-        ),
-        (
-            "a/stop_times.txt",
-            "trip_id,stop_sequence,stop_id,start_pickup_drop_off_window,end_pickup_drop_off_window\nT,1,M,08:00:00,09:00:00\nT,2,N,08:00:00,09:00:00\n",
-        ),
-        (
-            "a/frequencies.txt",
-            "trip_id,start_time,end_time,headway_secs\nT,08:05:00,08:30:00,600\n",
-        ),
-        ("t/walks.txt", "from_id,to_id,seconds\nM,N,600\n"),
-        (
-            "q",
-            "query_id,origin,destination,depart,now,transfers,horizon\n\
-             q1,M,N,2025-06-04T07:30:00Z,2025-06-03T12:00:00Z,1,60\n",
-        ),
-    ] {
-        let ended = planned(alloc, &[(path, text)])?;
-        assert_eq!(rt; ended.status, Status::NotBuilt);
-        assert!(rt; ended.out.bytes().is_empty());
-        assert!(rt; ended.err.bytes().is_empty());
-    }
-    Ok(())
-}
-
-#[test]
-fn more_tables_are_planned_for(rt: HostRuntime) -> Result<(), Fail> {
+fn other_tables_change_nothing_here(rt: HostRuntime) -> Result<(), Fail> {
     let alloc = rt.alloc();
     for (path, text) in [
         ("a/transfers.txt", ""),
@@ -276,6 +241,52 @@ fn more_tables_are_planned_for(rt: HostRuntime) -> Result<(), Fail> {
         assert_eq!(rt; ended.status, Status::Done);
         assert_eq!(rt; ended.out.bytes(), ANSWER.as_bytes());
     }
+    Ok(())
+}
+
+#[test]
+fn trips_are_repeated_from_their_starts(rt: HostRuntime) -> Result<(), Fail> {
+    let alloc = rt.alloc();
+    for (depart, text) in [
+        (
+            "07:30:00",
+            "query q1 1\njourney never 2025-06-04T08:25:00Z 0\n\
+             ride T 20250604 1 2 M N 2025-06-04T08:05:00Z 2025-06-04T08:25:00Z 29100\n",
+        ),
+        (
+            "08:15:01",
+            "query q1 1\njourney never 2025-06-04T08:45:00Z 0\n\
+             ride T 20250604 1 2 M N 2025-06-04T08:25:00Z 2025-06-04T08:45:00Z 30300\n",
+        ),
+        ("08:25:01", "query q1 0\n"),
+    ] {
+        let row = format!(in alloc; "q1,M,N,2025-06-04T{depart}Z,2025-06-03T12:00:00Z,0,60\n")?;
+        let query = under(alloc, QUERY_HEADER, row.as_str())?;
+        let repeated = (
+            "a/frequencies.txt",
+            "trip_id,start_time,end_time,headway_secs\nT,08:05:00,08:30:00,600\n",
+        );
+        let ended = planned(alloc, &[repeated, ("q", query.as_str())])?;
+        assert_eq!(rt; ended.status, Status::Done);
+        assert_eq!(rt; ended.out.bytes(), text.as_bytes());
+    }
+    Ok(())
+}
+
+#[test]
+fn a_trip_that_arrives_earlier_is_better(rt: HostRuntime) -> Result<(), Fail> {
+    let alloc = rt.alloc();
+    let trips = ("a/trips.txt", "route_id,service_id,trip_id\nR,S,T\nR,S,U\n");
+    let records = under(
+        alloc,
+        ROW_HEADER,
+        "T,1,M,08:00:00,08:00:00,,\nT,2,N,08:20:00,08:20:00,,\n\
+         U,1,M,08:05:00,08:05:00,,\nU,2,N,08:15:00,08:15:00,,\n",
+    )?;
+    let ended = planned(alloc, &[trips, ("a/stop_times.txt", records.as_str())])?;
+    let text = "query q1 1\njourney never 2025-06-04T08:15:00Z 0\n\
+                ride U 20250604 1 2 M N 2025-06-04T08:05:00Z 2025-06-04T08:15:00Z\n";
+    assert_eq!(rt; ended.out.bytes(), text.as_bytes());
     Ok(())
 }
 
@@ -432,7 +443,7 @@ fn faulty_times_are_told(rt: HostRuntime) -> Result<(), Fail> {
             [points, ("t/direct.txt", "from_id,to_id,seconds\nP,K,600\n")],
             "fault points.txt 3 SHARED_ID\nfault direct.txt 2 UNKNOWN_ID\n",
         ),
-        // Neither the queries, nor of which form the feed is, come before the times.
+        // The queries don't come before the times.
         (
             "q",
             [booked, ("t/zone.txt", "")],
@@ -485,7 +496,7 @@ fn failures_of_the_outside_are_told(rt: HostRuntime) -> Result<(), Fail> {
     assert_eq!(rt; ended.status, Status::ReadFault);
     assert!(rt; ended.out.bytes().is_empty());
     assert_eq!(rt; ended.err.bytes(), b"flexplan: read fault\n".as_slice());
-    // The last fetch, of the query file, fails where the walks aren't planned for: a read fault comes first.
+    // The last fetch is that of the query file.
     let walks = ("t/walks.txt", "from_id,to_id,seconds\nM,N,600\n");
     let mut files = files_with(alloc, &[walks])?;
     files.fail_at(18)?;

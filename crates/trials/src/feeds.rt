@@ -3,7 +3,7 @@
 use crate::judged::{AGENCY, CALENDAR, DAY_AHEAD, ONE_TRIP, ROUTES, STOPS};
 use crate::samples::{FEED, files_of};
 use crate::zoned::{BY_TEN, ZONE};
-use feed_load::{GivenRow, Loaded, fill_times, is_plain_feed, load};
+use feed_load::{GivenRow, Loaded, fill_times, load};
 use flex_io::LoadError;
 use flex_model::{Fault, FaultCode, Feed, InputFile, Listed, Spot};
 use std::test::Fail;
@@ -37,7 +37,6 @@ fn a_clean_folder_is_loaded(rt: HostRuntime) -> Result<(), Fail> {
     };
     assert_eq!(rt; row.sequence, 2);
     assert_eq!(rt; row.spot, Spot::Stop(1));
-    assert!(rt; is_plain_feed(&feed));
     Ok(())
 }
 

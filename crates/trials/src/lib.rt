@@ -33,6 +33,8 @@ mod runs;
 #[cfg(test)]
 mod samples;
 #[cfg(test)]
+mod searches;
+#[cfg(test)]
 mod times_folders;
 #[cfg(test)]
 mod window_runs;

@@ -3,7 +3,7 @@ use Rattle.flexplan.specs.Words.{plan, paths}
 use Rattle.flexplan.specs.Opened.{IsOpened, IsSoundOpening}
 use Rattle.flexplan.specs.Answers.{answer, RightText}
 use Rattle.flexplan.proofs.Gains.{gains_as}
-use Rattle.flexplan.proofs.Reply.{accepted, plan_accepted, plan_not_built, plan_refused, refusal_finishes, refused}
+use Rattle.flexplan.proofs.Reply.{accepted, plan_accepted, plan_refused, refusal_finishes, refused}
 use Rattle.flexplan.proofs.Texts.{prints-map}
 use Rattle.flexplan.proofs.run.perform_plan.Goals as goal
 
@@ -24,9 +24,3 @@ returns-in-Refused-clause-printed g c =
     let final = refusal_finishes status faults (subst IsSoundOpening c.in-Refused.is c.in_ok-held.ensures.sound) in
     let printed = rw c.as_slice.ensures at c.print_faults.ensures.printed in
     refused (plan (paths c.args.input.now)) told status faults (g.O.Sink.contents c.args.out.now) (g.O.Sink.contents c.print_faults.new.out) c.print_faults.result c.ended-in-Refused.result final (plan_refused told (paths c.args.input.now) status faults opened) c.ended-in-Refused.ensures.end printed
-
-pub returns-in-NotBuilt-clause-printed : goal.returns-in-NotBuilt-clause-printed
-returns-in-NotBuilt-clause-printed g c =
-    let told = g.F.Files.told c.args.files.now in
-    let unbuilt = subst (λ o. IfSome told (λ files. IsOpened files (paths c.args.input.now) o)) c.in-NotBuilt.is c.in_ok-held.ensures.opened in
-    plan_not_built told (paths c.args.input.now) (g.O.Sink.contents c.args.out.now) unbuilt

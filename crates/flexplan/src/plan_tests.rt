@@ -1,0 +1,501 @@
+// Queries over a feed with a zone, windows, booking rules, changes, walks and repeated trips.
+
+use crate::run::run;
+use crate::status::Status;
+use flex_io::{MemFiles, MemSink};
+use std::alloc::Global;
+use std::process::Abort;
+use std::test::Fail;
+
+// One trip in one zone, booked until 17:00 of the day before. Both stops and the point P lie in the zone.
+const FILES: [(&str, &str); 12] = [
+    (
+        "a/agency.txt",
+        "agency_name,agency_url,agency_timezone\nDale Bus,http://localhost/,UTC\n",
+    ),
+    (
+        "a/stops.txt",
+        "stop_id,stop_lat,stop_lon\nM,50.0,5.02\nN,50.0,5.03\n",
+    ),
+    ("a/routes.txt", "route_id\nR\n"),
+    ("a/trips.txt", "route_id,service_id,trip_id\nR,W,F1\n"),
+    (
+        "a/stop_times.txt",
+        "trip_id,stop_sequence,location_id,start_pickup_drop_off_window,end_pickup_drop_off_window,pickup_type,drop_off_type,pickup_booking_rule_id,drop_off_booking_rule_id\n\
+         F1,1,Z,08:00:00,10:00:00,2,1,B,\nF1,2,Z,08:00:00,10:00:00,1,2,,B\n",
+    ),
+    (
+        "a/calendar.txt",
+        "service_id,monday,tuesday,wednesday,thursday,friday,saturday,sunday,start_date,end_date\nW,1,1,1,1,1,0,0,20250101,20251231\n",
+    ),
+    (
+        "a/locations.geojson",
+        "{\"type\":\"FeatureCollection\",\"features\":[{\"type\":\"Feature\",\"id\":\"Z\",\"properties\":{},\"geometry\":{\"type\":\"Polygon\",\
+         \"coordinates\":[[[4.99,49.99],[5.05,49.99],[5.05,50.01],[4.99,50.01],[4.99,49.99]]]}}]}\n",
+    ),
+    (
+        "a/booking_rules.txt",
+        "booking_rule_id,booking_type,prior_notice_last_day,prior_notice_last_time\nB,2,1,17:00:00\n",
+    ),
+    ("t/zone.txt", "UTC0\n"),
+    ("t/points.txt", "point_id,point_lat,point_lon\nP,50.0,5.0\n"),
+    ("t/direct.txt", "from_id,to_id,seconds\nP,M,600\n"),
+    (
+        "q",
+        "query_id,origin,destination,depart,now,transfers,horizon\nq1,P,M,2025-06-04T07:30:00Z,2025-06-03T12:00:00Z,0,240\n",
+    ),
+];
+
+// Other contents of a file, or one file more.
+type Other<'a> = (&'a str, &'a str);
+
+const BOOKED_THE_DAY_BEFORE: &str = "query q1 1\n\
+    journey 2025-06-03T17:00:00Z 2025-06-04T08:10:00Z 0\n\
+    ride F1 20250604 1 2 P M 2025-06-04T08:00:00Z 2025-06-04T08:10:00Z\n";
+
+// The first window ends at 08:03:00.
+const FOUR_DEPARTURES: Other<'static> = (
+    "a/stop_times.txt",
+    "trip_id,stop_sequence,location_id,start_pickup_drop_off_window,end_pickup_drop_off_window,pickup_type,drop_off_type,pickup_booking_rule_id,drop_off_booking_rule_id\n\
+     F1,1,Z,08:00:00,08:03:00,2,1,B,\nF1,2,Z,08:00:00,10:00:00,1,2,,B\n",
+);
+
+// The second one ends at 08:10:00.
+const ONE_ARRIVAL: Other<'static> = (
+    "a/stop_times.txt",
+    "trip_id,stop_sequence,location_id,start_pickup_drop_off_window,end_pickup_drop_off_window,pickup_type,drop_off_type,pickup_booking_rule_id,drop_off_booking_rule_id\n\
+     F1,1,Z,08:00:00,10:00:00,2,1,B,\nF1,2,Z,08:00:00,08:10:00,1,2,,B\n",
+);
+
+const BOOKED_UP_TO_EACH: &str = "query q1 4\n\
+    journey 2025-06-04T08:00:00Z 2025-06-04T08:10:00Z 0\n\
+    ride F1 20250604 1 2 P M 2025-06-04T08:00:00Z 2025-06-04T08:10:00Z\n\
+    journey 2025-06-04T08:01:00Z 2025-06-04T08:11:00Z 0\n\
+    ride F1 20250604 1 2 P M 2025-06-04T08:01:00Z 2025-06-04T08:11:00Z\n\
+    journey 2025-06-04T08:02:00Z 2025-06-04T08:12:00Z 0\n\
+    ride F1 20250604 1 2 P M 2025-06-04T08:02:00Z 2025-06-04T08:12:00Z\n\
+    journey 2025-06-04T08:03:00Z 2025-06-04T08:13:00Z 0\n\
+    ride F1 20250604 1 2 P M 2025-06-04T08:03:00Z 2025-06-04T08:13:00Z\n";
+
+const NONE: &str = "query q1 0\n";
+
+// A query of these fields.
+fn query(alloc: Global, fields: &str) -> Result<String, Fail> {
+    Ok(format!(in alloc;
+        "query_id,origin,destination,depart,now,transfers,horizon\nq1,{fields}\n"
+    )?)
+}
+
+#[derive(Drop)]
+struct Ended {
+    status: Status,
+    out: MemSink,
+    err: MemSink,
+}
+
+// Plans over these files with others in place of some or beside them.
+fn planned(alloc: Global, others: &[Other<'_>]) -> Result<Ended, Fail> {
+    let mut files = MemFiles::new(alloc);
+    for (path, contents) in FILES.as_slice() {
+        files.add(path, contents.as_bytes())?;
+    }
+    for (path, contents) in others {
+        files.add(path, contents.as_bytes())?;
+    }
+    let mut out = MemSink::new(alloc);
+    let mut err = MemSink::new(alloc);
+    let words = ["plan", "a", "t", "q"];
+    let status = run(alloc, &words, &mut files, &mut out, &mut err);
+    Ok(Ended { status, out, err })
+}
+
+// Asserts what `plan` prints over these files.
+fn assert_planned(
+    rt: &impl Abort,
+    alloc: Global,
+    others: &[Other<'_>],
+    text: &str,
+) -> Result<(), Fail> {
+    let ended = planned(alloc, others)?;
+    assert_eq!(rt; ended.out.bytes(), text.as_bytes());
+    assert_eq!(rt; ended.status, Status::Done);
+    assert!(rt; ended.err.bytes().is_empty());
+    Ok(())
+}
+
+#[test]
+fn rides_in_a_zone_are_booked_in_time(rt: HostRuntime) -> Result<(), Fail> {
+    let alloc = rt.alloc();
+    for (fields, text) in [
+        (
+            "P,M,2025-06-04T07:30:00Z,2025-06-03T12:00:00Z,0,240",
+            BOOKED_THE_DAY_BEFORE,
+        ),
+        (
+            "P,M,2025-06-04T07:30:00Z,2025-06-03T17:00:00Z,0,240",
+            BOOKED_THE_DAY_BEFORE,
+        ),
+        ("P,M,2025-06-04T07:30:00Z,2025-06-03T17:00:01Z,0,240", NONE),
+        // Both are in the zone, but no direct time stands for the pair.
+        ("M,N,2025-06-04T07:30:00Z,2025-06-03T12:00:00Z,0,240", NONE),
+    ] {
+        let asked = query(alloc, fields)?;
+        assert_planned(&rt, alloc, &[("q", asked.as_str())], text)?;
+        assert_planned(&rt, alloc, &[("q", asked.as_str()), ONE_ARRIVAL], text)?;
+    }
+    // One second more than there is.
+    let longer = ("t/direct.txt", "from_id,to_id,seconds\nP,M,601\n");
+    assert_planned(&rt, alloc, &[ONE_ARRIVAL, longer], NONE)
+}
+
+#[test]
+fn each_rule_has_its_last_moment(rt: HostRuntime) -> Result<(), Fail> {
+    let alloc = rt.alloc();
+    let by_duration = "booking_rule_id,booking_type,prior_notice_duration_min\nB,1,30\n";
+    let between =
+        "booking_rule_id,booking_type,prior_notice_duration_min,prior_notice_duration_max\n";
+    let days =
+        "booking_rule_id,booking_type,prior_notice_last_day,prior_notice_last_time,prior_notice_service_id\n";
+    let opened = format!(in alloc; "{between}B,1,30,60\n")?;
+    let never = format!(in alloc; "{between}B,1,30,20\n")?;
+    let two_days = format!(in alloc; "{days}B,2,2,17:00:00,W\n")?;
+    let other_service = format!(in alloc; "{days}B,2,1,17:00:00,V\n")?;
+    let half_hours = "query q1 4\n\
+        journey 2025-06-04T07:30:00Z 2025-06-04T08:10:00Z 0\n\
+        ride F1 20250604 1 2 P M 2025-06-04T08:00:00Z 2025-06-04T08:10:00Z\n\
+        journey 2025-06-04T07:31:00Z 2025-06-04T08:11:00Z 0\n\
+        ride F1 20250604 1 2 P M 2025-06-04T08:01:00Z 2025-06-04T08:11:00Z\n\
+        journey 2025-06-04T07:32:00Z 2025-06-04T08:12:00Z 0\n\
+        ride F1 20250604 1 2 P M 2025-06-04T08:02:00Z 2025-06-04T08:12:00Z\n\
+        journey 2025-06-04T07:33:00Z 2025-06-04T08:13:00Z 0\n\
+        ride F1 20250604 1 2 P M 2025-06-04T08:03:00Z 2025-06-04T08:13:00Z\n";
+    let no_date = ("b", "");
+    for (others, fields, text) in [
+        // Up to the departure.
+        (
+            [
+                FOUR_DEPARTURES,
+                (
+                    "a/booking_rules.txt",
+                    "booking_rule_id,booking_type,prior_notice_last_day,prior_notice_last_time\nB,0,,\n",
+                ),
+                no_date,
+            ],
+            "P,M,2025-06-04T07:30:00Z,2025-06-03T12:00:00Z,0,240",
+            BOOKED_UP_TO_EACH,
+        ),
+        // Up to noon of the day, and so up to the departure.
+        (
+            [
+                FOUR_DEPARTURES,
+                (
+                    "a/booking_rules.txt",
+                    "booking_rule_id,booking_type,prior_notice_last_day,prior_notice_last_time\nB,2,0,12:00:00\n",
+                ),
+                no_date,
+            ],
+            "P,M,2025-06-04T07:30:00Z,2025-06-03T12:00:00Z,0,240",
+            BOOKED_UP_TO_EACH,
+        ),
+        // Up to half an hour before.
+        (
+            [("a/booking_rules.txt", by_duration), no_date, no_date],
+            "P,M,2025-06-04T07:30:00Z,2025-06-04T09:20:00Z,0,240",
+            "query q1 1\njourney 2025-06-04T09:20:00Z 2025-06-04T10:00:00Z 0\n\
+             ride F1 20250604 1 2 P M 2025-06-04T09:50:00Z 2025-06-04T10:00:00Z\n",
+        ),
+        (
+            [("a/booking_rules.txt", by_duration), no_date, no_date],
+            "P,M,2025-06-04T07:30:00Z,2025-06-04T09:20:01Z,0,240",
+            NONE,
+        ),
+        // It opens an hour before, which is later than now.
+        (
+            [
+                FOUR_DEPARTURES,
+                ("a/booking_rules.txt", opened.as_str()),
+                no_date,
+            ],
+            "P,M,2025-06-04T07:30:00Z,2025-06-04T05:00:00Z,0,240",
+            half_hours,
+        ),
+        // It opens after it closes.
+        (
+            [
+                FOUR_DEPARTURES,
+                ("a/booking_rules.txt", never.as_str()),
+                no_date,
+            ],
+            "P,M,2025-06-04T07:30:00Z,2025-06-04T05:00:00Z,0,240",
+            NONE,
+        ),
+        // Two days back of service W, which doesn't run on Friday, 6 June, nor at the weekend.
+        (
+            [
+                ("a/booking_rules.txt", two_days.as_str()),
+                (
+                    "a/calendar_dates.txt",
+                    "service_id,date,exception_type\nW,20250606,2\n",
+                ),
+                no_date,
+            ],
+            "P,M,2025-06-09T07:30:00Z,2025-06-02T12:00:00Z,0,240",
+            "query q1 1\njourney 2025-06-04T17:00:00Z 2025-06-09T08:10:00Z 0\n\
+             ride F1 20250609 1 2 P M 2025-06-09T08:00:00Z 2025-06-09T08:10:00Z\n",
+        ),
+        // There is no day before of service V.
+        (
+            [
+                ("a/booking_rules.txt", other_service.as_str()),
+                (
+                    "a/calendar_dates.txt",
+                    "service_id,date,exception_type\nV,20250604,1\n",
+                ),
+                no_date,
+            ],
+            "P,M,2025-06-04T07:30:00Z,2025-06-03T12:00:00Z,0,240",
+            NONE,
+        ),
+    ] {
+        let asked = query(alloc, fields)?;
+        let all = [("q", asked.as_str()), others[0], others[1], others[2]];
+        assert_planned(&rt, alloc, &all, text)?;
+    }
+    Ok(())
+}
+
+// The clocks of New York go forward on 2025-03-09 and back on 2025-11-02.
+#[test]
+fn days_of_windows_begin_in_the_zone(rt: HostRuntime) -> Result<(), Fail> {
+    let alloc = rt.alloc();
+    let zone = ("t/zone.txt", "EST5EDT,M3.2.0,M11.1.0\n");
+    let calendar = (
+        "a/calendar.txt",
+        "service_id,monday,tuesday,wednesday,thursday,friday,saturday,sunday,start_date,end_date\nW,1,1,1,1,1,1,1,20250101,20251231\n",
+    );
+    for (fields, text) in [
+        (
+            "P,M,2025-03-09T06:00:00Z,2025-03-08T12:00:00Z,0,600",
+            "query q1 1\njourney 2025-03-08T22:00:00Z 2025-03-09T12:10:00Z 0\n\
+             ride F1 20250309 1 2 P M 2025-03-09T12:00:00Z 2025-03-09T12:10:00Z\n",
+        ),
+        (
+            "P,M,2025-11-02T06:00:00Z,2025-11-01T12:00:00Z,0,600",
+            "query q1 1\njourney 2025-11-01T21:00:00Z 2025-11-02T13:10:00Z 0\n\
+             ride F1 20251102 1 2 P M 2025-11-02T13:00:00Z 2025-11-02T13:10:00Z\n",
+        ),
+    ] {
+        let asked = query(alloc, fields)?;
+        assert_planned(&rt, alloc, &[("q", asked.as_str()), zone, calendar], text)?;
+    }
+    Ok(())
+}
+
+// One is picked up in the zone, and left at a stop at its time; and a trip of the day before, after midnight.
+#[test]
+fn windows_and_times_stand_in_one_feed(rt: HostRuntime) -> Result<(), Fail> {
+    let alloc = rt.alloc();
+    let trip = ("a/trips.txt", "route_id,service_id,trip_id\nR,W,Y\n");
+    let rows = (
+        "a/stop_times.txt",
+        "trip_id,stop_sequence,location_id,stop_id,arrival_time,departure_time,start_pickup_drop_off_window,end_pickup_drop_off_window,pickup_type,drop_off_type\n\
+         Y,1,Z,,,,08:00:00,08:30:00,2,1\nY,2,,M,08:20:00,08:20:00,,,,\n",
+    );
+    let text = "query q1 1\njourney 2025-06-04T08:10:00Z 2025-06-04T08:20:00Z 0\n\
+        ride Y 20250604 1 2 P M 2025-06-04T08:10:00Z 2025-06-04T08:20:00Z\n";
+    assert_planned(&rt, alloc, &[trip, rows], text)?;
+    let trips = (
+        "a/trips.txt",
+        "route_id,service_id,trip_id\nR,W,F1\nR,W,X\n",
+    );
+    let rows = (
+        "a/stop_times.txt",
+        "trip_id,stop_sequence,location_id,stop_id,arrival_time,departure_time,start_pickup_drop_off_window,end_pickup_drop_off_window,pickup_type,drop_off_type,pickup_booking_rule_id,drop_off_booking_rule_id\n\
+         F1,1,Z,,,,08:00:00,10:00:00,2,1,B,\nF1,2,Z,,,,08:00:00,10:00:00,1,2,,B\n\
+         X,1,,M,25:10:00,25:10:00,,,,,,\nX,2,,N,25:30:00,25:30:00,,,,,,\n",
+    );
+    let asked = query(alloc, "M,N,2025-06-05T01:00:00Z,2025-06-03T12:00:00Z,0,60")?;
+    let text = "query q1 1\njourney never 2025-06-05T01:30:00Z 0\n\
+        ride X 20250604 1 2 M N 2025-06-05T01:10:00Z 2025-06-05T01:30:00Z\n";
+    assert_planned(&rt, alloc, &[trips, rows, ("q", asked.as_str())], text)
+}
+
+// The change from N to O, and the walk from Q to the point D.
+const CHANGES: [Other<'static>; 7] = [
+    (
+        "a/stops.txt",
+        "stop_id,stop_lat,stop_lon\nM,50.0,5.02\nN,50.0,5.03\nO,50.5,5.5\nQ,50.5,5.6\n",
+    ),
+    (
+        "a/trips.txt",
+        "route_id,service_id,trip_id\nR,W,F1\nR,W,X1\nR,W,X2\n",
+    ),
+    (
+        "a/stop_times.txt",
+        "trip_id,stop_sequence,location_id,stop_id,arrival_time,departure_time,start_pickup_drop_off_window,end_pickup_drop_off_window,pickup_type,drop_off_type,pickup_booking_rule_id,drop_off_booking_rule_id\n\
+         F1,1,Z,,,,08:00:00,10:00:00,2,1,B,\nF1,2,Z,,,,08:00:00,10:00:00,1,2,,B\n\
+         X1,1,,M,08:00:00,08:00:00,,,,,,\nX1,2,,N,08:20:00,08:20:00,,,,,,\n\
+         X2,1,,O,08:25:00,08:25:00,,,,,,\nX2,2,,Q,08:40:00,08:40:00,,,,,,\n",
+    ),
+    (
+        "a/transfers.txt",
+        "from_stop_id,to_stop_id,transfer_type,min_transfer_time\nN,O,2,300\n",
+    ),
+    (
+        "t/points.txt",
+        "point_id,point_lat,point_lon\nP,50.0,5.0\nD,50.0,5.04\n",
+    ),
+    ("t/direct.txt", "from_id,to_id,seconds\nP,M,600\nM,D,3600\n"),
+    ("t/walks.txt", "from_id,to_id,seconds\nQ,D,1200\n"),
+];
+
+// What `plan` prints with the change, and these files in place of some.
+fn assert_changed(
+    rt: &impl Abort,
+    alloc: Global,
+    fields: &str,
+    others: [Other<'_>; 2],
+    text: &str,
+) -> Result<(), Fail> {
+    let [a, b, c, d, e, f, g] = CHANGES;
+    let asked = query(alloc, fields)?;
+    let all = [
+        a,
+        b,
+        c,
+        d,
+        e,
+        f,
+        g,
+        ("q", asked.as_str()),
+        others[0],
+        others[1],
+    ];
+    assert_planned(rt, alloc, &all, text)
+}
+
+#[test]
+fn one_changes_where_it_is_allowed(rt: HostRuntime) -> Result<(), Fail> {
+    let alloc = rt.alloc();
+    let none = ("b", "");
+    let both = "query q1 2\njourney 2025-06-03T17:00:00Z 2025-06-04T09:00:00Z 0\n\
+        ride F1 20250604 1 2 M D 2025-06-04T08:00:00Z 2025-06-04T09:00:00Z\n\
+        journey never 2025-06-04T09:00:00Z 1\n\
+        ride X1 20250604 1 2 M N 2025-06-04T08:00:00Z 2025-06-04T08:20:00Z\n\
+        ride X2 20250604 1 2 O Q 2025-06-04T08:25:00Z 2025-06-04T08:40:00Z\n";
+    let hour = "M,D,2025-06-04T08:00:00Z,2025-06-03T12:00:00Z,1,60";
+    assert_changed(&rt, alloc, hour, [none, none], both)?;
+    let at_once = (
+        "a/transfers.txt",
+        "from_stop_id,to_stop_id,transfer_type,min_transfer_time\nN,O,2,\n",
+    );
+    assert_changed(&rt, alloc, hour, [at_once, none], both)?;
+    let shorter = "M,D,2025-06-04T08:00:00Z,2025-06-03T12:00:00Z,1,59";
+    assert_changed(&rt, alloc, shorter, [none, none], NONE)?;
+    // A change that takes a second more than there is, or that is forbidden.
+    let alone = "query q1 1\njourney 2025-06-03T17:00:00Z 2025-06-04T09:00:00Z 0\n\
+        ride F1 20250604 1 2 M D 2025-06-04T08:00:00Z 2025-06-04T09:00:00Z\n";
+    for transfers in [
+        "from_stop_id,to_stop_id,transfer_type,min_transfer_time\nN,O,2,301\n",
+        "from_stop_id,to_stop_id,transfer_type,min_transfer_time\nN,O,3,\n",
+    ] {
+        assert_changed(
+            &rt,
+            alloc,
+            hour,
+            [("a/transfers.txt", transfers), none],
+            alone,
+        )?;
+    }
+    // A walk from the first change is faster than both.
+    let walks = ("t/walks.txt", "from_id,to_id,seconds\nQ,D,1200\nN,D,600\n");
+    let walked = "query q1 1\njourney never 2025-06-04T08:30:00Z 0\n\
+        ride X1 20250604 1 2 M N 2025-06-04T08:00:00Z 2025-06-04T08:20:00Z\n";
+    assert_changed(&rt, alloc, hour, [walks, none], walked)
+}
+
+#[test]
+fn walking_counts_where_it_is_asked_for(rt: HostRuntime) -> Result<(), Fail> {
+    let alloc = rt.alloc();
+    let asked = (
+        "q",
+        "query_id,origin,destination,depart,now,transfers,horizon,walking\nq1,M,D,2025-06-04T08:00:00Z,2025-06-03T12:00:00Z,1,60,1\n",
+    );
+    let by_changing = "query q1 2 walking\njourney 2025-06-03T17:00:00Z 2025-06-04T09:00:00Z 0 0\n\
+        ride F1 20250604 1 2 M D 2025-06-04T08:00:00Z 2025-06-04T09:00:00Z\n\
+        journey never 2025-06-04T09:00:00Z 1 1500\n\
+        ride X1 20250604 1 2 M N 2025-06-04T08:00:00Z 2025-06-04T08:20:00Z\n\
+        ride X2 20250604 1 2 O Q 2025-06-04T08:25:00Z 2025-06-04T08:40:00Z\n";
+    assert_changed(&rt, alloc, "", [asked, ("b", "")], by_changing)?;
+    let walks = ("t/walks.txt", "from_id,to_id,seconds\nQ,D,1200\nN,D,600\n");
+    let by_walking = "query q1 2 walking\njourney never 2025-06-04T08:30:00Z 0 600\n\
+        ride X1 20250604 1 2 M N 2025-06-04T08:00:00Z 2025-06-04T08:20:00Z\n\
+        journey 2025-06-03T17:00:00Z 2025-06-04T09:00:00Z 0 0\n\
+        ride F1 20250604 1 2 M D 2025-06-04T08:00:00Z 2025-06-04T09:00:00Z\n";
+    assert_changed(&rt, alloc, "", [asked, walks], by_walking)
+}
+
+// Nine stops, and between each two of them thirty trips, every one of which meets each of those to the next stop.
+fn legs(alloc: Global) -> Result<(String, String, String), Fail> {
+    let mut stops = String::from_str(alloc, "stop_id,stop_lat,stop_lon\n")?;
+    for stop in 0..9 {
+        stops.push_str(format!(in alloc; "c{stop},50,5\n")?.as_str())?;
+    }
+    let mut trips = String::from_str(alloc, "route_id,service_id,trip_id\n")?;
+    let mut rows = String::from_str(
+        alloc,
+        "trip_id,stop_sequence,stop_id,arrival_time,departure_time\n",
+    )?;
+    for leg in 0..8_u32 {
+        for k in 0..30_u32 {
+            trips.push_str(format!(in alloc; "R,W,g{leg}_{k}\n")?.as_str())?;
+            for record in 0..2_u32 {
+                let seconds = 28_800 + 900 * leg + 20 * k + 300 * record;
+                let (hour, minute, second) = (seconds / 3_600, seconds / 60 % 60, seconds % 60);
+                let time = format!(in alloc; "{hour:02}:{minute:02}:{second:02}")?;
+                let row = format!(in alloc;
+                    "g{leg}_{k},{record},c{},{time},{time}\n",
+                    leg + record
+                )?;
+                rows.push_str(row.as_str())?;
+            }
+        }
+    }
+    Ok((stops, trips, rows))
+}
+
+// 30^8 journeys have one triple.
+#[test]
+fn many_journeys_have_one_answer(rt: HostRuntime) -> Result<(), Fail> {
+    let alloc = rt.alloc();
+    let (stops, trips, rows) = legs(alloc)?;
+    let no_zones = "{\"type\":\"FeatureCollection\",\"features\":[]}";
+    let asked = query(
+        alloc,
+        "c0,c8,2025-06-04T07:30:00Z,2025-06-03T12:00:00Z,7,240",
+    )?;
+    let fewer = query(
+        alloc,
+        "c0,c8,2025-06-04T07:30:00Z,2025-06-03T12:00:00Z,6,240",
+    )?;
+    let mut others = [
+        ("a/stops.txt", stops.as_str()),
+        ("a/trips.txt", trips.as_str()),
+        ("a/stop_times.txt", rows.as_str()),
+        ("a/locations.geojson", no_zones),
+        ("t/direct.txt", "from_id,to_id,seconds\n"),
+        ("q", asked.as_str()),
+    ];
+    let ended = planned(alloc, &others)?;
+    assert_eq!(rt; ended.status, Status::Done);
+    let text = ended.out.bytes();
+    assert!(rt; text.starts_with(b"query q1 1\njourney never 2025-06-04T09:50:00Z 7\nride g0_"));
+    assert!(rt;
+        text.ends_with(
+            b"\nride g7_0 20250604 0 1 c7 c8 2025-06-04T09:45:00Z 2025-06-04T09:50:00Z\n"
+        )
+    );
+    assert_eq!(rt; text.iter().filter(|byte| **byte == b'\n').count(), 10);
+    others[5] = ("q", fewer.as_str());
+    assert_planned(&rt, alloc, &others, NONE)
+}
