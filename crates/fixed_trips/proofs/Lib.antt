@@ -1,5 +1,5 @@
 pub mod Legs
-pub mod PatternMembers
+pub mod PatternTrips
 pub mod PatternNumbers
 pub mod PatternRides
 pub mod PatternTables

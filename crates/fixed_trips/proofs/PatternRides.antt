@@ -25,7 +25,7 @@ use Rattle.fixed_trips.proofs.RunRides.{leg_of, no_ride, single_is_only, single_
 use Rattle.fixed_trips.specs.PatternParts.{IsEarlier, IsRideOfOne, IsRideOfTrip, IsTripRide}
 use Rattle.fixed_trips.specs.Patterns.{ComesNoLater, HasPattern, IsFirst}
 use Rattle.fixed_trips.specs.Timed.{IsSingle}
-use Rattle.fixed_trips.specs.declared.members.Member.{Member}
+use Rattle.fixed_trips.specs.declared.pattern_trips.PatternTrip.{PatternTrip}
 
 no_later-trans : (a b c : Ride) → ComesNoLater a b → ComesNoLater b c → ComesNoLater a c
 no_later-trans a b c p q = record {
@@ -235,21 +235,21 @@ module _ (feed : Feed) (times : Times) (days : DayTable) (trip from_row to_row :
 
 -- ---- trip by trip
 
-pub next_member : (feed : Feed) (times : Times) (days : DayTable) (members : List Member) (n : ℕ) (member : Member) (from_row to_row : ℕ) (earliest : ℤ) (found ride after : Option Ride)
-    → take (n + 1) members ≡ take n members ++ member ∷ [] → IsFirst (IsRideOfOne feed times days (take n members) from_row to_row earliest) found
-    → IsFirst (IsRideOfTrip feed times days member.trip from_row to_row earliest) ride → IsEarlier found ride after
-    → IsFirst (IsRideOfOne feed times days (take (n + 1) members) from_row to_row earliest) after
-next_member feed times days members n member from_row to_row earliest found ride after more so_far one chosen =
+pub next_of_trips : (feed : Feed) (times : Times) (days : DayTable) (trips : List PatternTrip) (n : ℕ) (trip : PatternTrip) (from_row to_row : ℕ) (earliest : ℤ) (found ride after : Option Ride)
+    → take (n + 1) trips ≡ take n trips ++ trip ∷ [] → IsFirst (IsRideOfOne feed times days (take n trips) from_row to_row earliest) found
+    → IsFirst (IsRideOfTrip feed times days trip.trip from_row to_row earliest) ride → IsEarlier found ride after
+    → IsFirst (IsRideOfOne feed times days (take (n + 1) trips) from_row to_row earliest) after
+next_of_trips feed times days trips n trip from_row to_row earliest found ride after more so_far one chosen =
     subst (λ ms. IsFirst (IsRideOfOne feed times days ms from_row to_row earliest) after) (sym more)
-    (first_of_both (IsRideOfOne feed times days (take n members) from_row to_row earliest) (IsRideOfTrip feed times days member.trip from_row to_row earliest)
-    (IsRideOfOne feed times days (take n members ++ member ∷ []) from_row to_row earliest) found ride after so_far one chosen
+    (first_of_both (IsRideOfOne feed times days (take n trips) from_row to_row earliest) (IsRideOfTrip feed times days trip.trip from_row to_row earliest)
+    (IsRideOfOne feed times days (take n trips ++ trip ∷ []) from_row to_row earliest) found ride after so_far one chosen
     (λ x. (
       λ h. elim h [
-        | inl early ↦ (early.0, Contains-append_left (take n members) (member ∷ []) early.0 early.1, early.2)
-        | inr here ↦ (member, Contains-append_right (take n members) (member ∷ []) member (Contains-first member []), here)
+        | inl early ↦ (early.0, Contains-append_left (take n trips) (trip ∷ []) early.0 early.1, early.2)
+        | inr here ↦ (trip, Contains-append_right (take n trips) (trip ∷ []) trip (Contains-first trip []), here)
       ],
-      λ h. elim (Contains-append_cases (take n members) (member ∷ []) h.0 h.1) [
+      λ h. elim (Contains-append_cases (take n trips) (trip ∷ []) h.0 h.1) [
         | inl old ↦ inl (h.0, old, h.2)
-        | inr new ↦ inr (subst (λ m. IsRideOfTrip feed times days m.trip from_row to_row earliest x) (only_contained member h.0 new) h.2)
+        | inr new ↦ inr (subst (λ m. IsRideOfTrip feed times days m.trip from_row to_row earliest x) (only_contained trip h.0 new) h.2)
       ],
     )))

@@ -6,15 +6,15 @@ use Rattle.flex_model.specs.declared.moment.DayTable.{DayTable}
 use Rattle.flex_model.specs.declared.ride.Ride.{Ride}
 use Rattle.flex_model.specs.declared.times.Times.{Times}
 use Rattle.flex_model.proofs.Found.{All-from_contains}
-use Rattle.fixed_trips.specs.PatternParts.{HasMembers, IsPatternTrip, IsRideOfOne}
+use Rattle.fixed_trips.specs.PatternParts.{HasPatternTrips, IsPatternTrip, IsRideOfOne}
 use Rattle.fixed_trips.specs.Patterns.{ArePatternsOf, IsFirst, IsOfPattern, IsPatternRide}
-use Rattle.fixed_trips.specs.declared.members.Member.{Member}
+use Rattle.fixed_trips.specs.declared.pattern_trips.PatternTrip.{PatternTrip}
 use Rattle.fixed_trips.proofs.PatternNumbers.{item_at}
 use Rattle.fixed_trips.proofs.PatternRides.{first_same}
 
-module _ (feed : Feed) (patterns : List (Option ℕ)) (all picked : List Member) (p : ℕ) (table : ArePatternsOf feed patterns) (has : HasMembers patterns all)
-    (with_pattern : (m : Member) → Contains picked m ↔ (Contains all m × (m.pattern ≡ p))) where
-  of_pattern : (m : Member) → Contains picked m → IsOfPattern patterns m.trip p
+module _ (feed : Feed) (patterns : List (Option ℕ)) (all picked : List PatternTrip) (p : ℕ) (table : ArePatternsOf feed patterns) (has : HasPatternTrips patterns all)
+    (with_pattern : (m : PatternTrip) → Contains picked m ↔ (Contains all m × (m.pattern ≡ p))) where
+  of_pattern : (m : PatternTrip) → Contains picked m → IsOfPattern patterns m.trip p
   of_pattern m c =
       let h = (with_pattern m).0 c in
       subst (IsOfPattern patterns m.trip) h.1 ((has m).0 h.0)
@@ -42,7 +42,7 @@ module _ (feed : Feed) (patterns : List (Option ℕ)) (all picked : List Member)
               permitted = r.permitted;
             },
         λ h.
-            let m : Member = record { pattern = p; trip = ride.trip } in (
+            let m : PatternTrip = record { pattern = p; trip = ride.trip } in (
               m,
               (with_pattern m).1 ((has m).1 h.of_pattern, refl),
               (record { of_trip = refl; on_day = refl; from = h.from; to = h.to; permitted = h.permitted }, h.from_then),

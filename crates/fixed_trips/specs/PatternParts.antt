@@ -18,7 +18,7 @@ use Rattle.flex_model.specs.declared.trip.Trip.{Trip}
 use Rattle.flex_model.specs.declared.trip.Way.{Way}
 use Rattle.flex_model.specs.declared.trip.Way.TheVariants.{No, Free, Book}
 use Rattle.flex_model.specs.Ride.{IsPermittedRide}
-use Rattle.fixed_trips.specs.declared.members.Member.{Member}
+use Rattle.fixed_trips.specs.declared.pattern_trips.PatternTrip.{PatternTrip}
 use Rattle.fixed_trips.specs.Patterns.{ComesNoLater, HasPattern, IsOfPattern}
 
 -- what tells patterns apart at a record: the number that it names, whether one may board and whether one may alight
@@ -30,16 +30,19 @@ abbrev pub compare_calls : Call → Call → Ordering
 compare_calls x y =
     ordering_then (ordering_then (nat_cmp x.0 y.0) (bool_cmp x.1 y.1)) (bool_cmp x.2 y.2)
 
+-- the number of what a record names
 abbrev pub number_named : Spot → ℕ
 number_named (spot.Stop number) = number
 number_named (spot.Group number) = number
 number_named (spot.Zone number) = number
 
+-- one may board or alight so
 abbrev pub is_offered : Way → Bool
 is_offered No = false
 is_offered Free = true
 is_offered (Book rule) = true
 
+-- the same of a record
 abbrev pub key_call : Row → Call
 key_call row = (number_named row.spot, is_offered row.pickup, is_offered row.drop_off)
 
@@ -95,22 +98,23 @@ pub record AreNumbered (trips : List Trip) (met : Met) (patterns : List (Option 
       → (u : ℕ) × (u < t) × IsOfPattern patterns u q
 
 -- the list has each trip with a pattern, with this, and no others
-abbrev pub HasMembers : List (Option ℕ) → List Member → Type 0
-HasMembers patterns members =
-    (member : Member) → Contains members member ↔ IsOfPattern patterns member.trip member.pattern
+abbrev pub HasPatternTrips : List (Option ℕ) → List PatternTrip → Type 0
+HasPatternTrips patterns trips =
+    (trip : PatternTrip) → Contains trips trip ↔ IsOfPattern patterns trip.trip trip.pattern
 
 -- by their patterns
-abbrev pub AreInOrder : List Member → Type 0
-AreInOrder members = IsNonDecreasingBy (λ member. member.pattern) members
+abbrev pub AreInOrder : List PatternTrip → Type 0
+AreInOrder trips = IsNonDecreasingBy (λ trip. trip.pattern) trips
 
 -- there are so many patterns
 abbrev pub IsCountOf : List (Option ℕ) → ℕ → Type 0
 IsCountOf patterns count = (p : ℕ) → (p < count) ↔ Contains patterns (Some p)
 
 -- what the table keeps beside the patterns of the trips
-pub record IsTable (patterns : List (Option ℕ)) (members : List Member) (count : ℕ) : Type 0 where
-  pub members_are : HasMembers patterns members
-  pub in_order : AreInOrder members
+pub record IsTable (patterns : List (Option ℕ)) (trips : List PatternTrip)
+    (count : ℕ) : Type 0 where
+  pub trips_are : HasPatternTrips patterns trips
+  pub in_order : AreInOrder trips
   pub count_is : IsCountOf patterns count
 
 -- the trip of the feed belongs to a pattern
@@ -133,10 +137,10 @@ IsRideOfTrip feed times days trip from_row to_row earliest ride =
     IsTripRide feed times days trip ride.day from_row to_row ride × (earliest ≤ℤ ride.departs)
 
 -- the same for one of these trips
-abbrev pub IsRideOfOne : Feed → Times → DayTable → List Member → ℕ → ℕ → ℤ → Ride → Type 0
-IsRideOfOne feed times days members from_row to_row earliest ride =
-    (member : Member) × Contains members member
-    × IsRideOfTrip feed times days member.trip from_row to_row earliest ride
+abbrev pub IsRideOfOne : Feed → Times → DayTable → List PatternTrip → ℕ → ℕ → ℤ → Ride → Type 0
+IsRideOfOne feed times days trips from_row to_row earliest ride =
+    (trip : PatternTrip) × Contains trips trip
+    × IsRideOfTrip feed times days trip.trip from_row to_row earliest ride
 
 -- the one that comes first of two rides, of which each may be absent
 pub record IsEarlier (a b result : Option Ride) : Type 0 where

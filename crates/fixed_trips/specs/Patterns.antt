@@ -19,6 +19,7 @@ use Rattle.flex_model.specs.declared.trip.Way.TheVariants.{No, Free, Book}
 use Rattle.flex_model.specs.Ride.{HasTimes, IsPermittedRide}
 use Rattle.fixed_trips.specs.Timed.{NamesStop}
 
+-- none, or free
 abbrev pub NeedsNoBooking : Way → Type 0
 NeedsNoBooking No = Unit {0}
 NeedsNoBooking Free = Unit {0}

@@ -12,7 +12,7 @@ ghost use Rattle.fixed_trips.specs.PatternParts.{IsEarlier, IsPatternTrip, IsRid
 ghost use Rattle.fixed_trips.specs.Patterns.{ComesNoLater, IsFirst};
 ghost use Rattle.fixed_trips.specs.Timed.{NamesStop};
 
-use crate::members::Member;
+use crate::pattern_trips::PatternTrip;
 use crate::run::fixed_run;
 use flex_model::{Arrives, DayTable, Feed, Moment, Place, Ride, Spot};
 use service_days::first_travel_day;
@@ -144,23 +144,23 @@ fn first_of_trip(
 }
 
 // The first ride of these trips between the two records that leaves no earlier than this.
-pub(crate) fn first_of_members(
+pub(crate) fn first_of_trips(
     feed: &Feed,
     days: &DayTable,
-    members: &[Member],
+    trips: &[PatternTrip],
     from_row: u32,
     to_row: u32,
     earliest: Moment,
 ) -> Option<Ride>
     requires feed { IsSoundFeed feed.now }
     requires days { IsSoundDayTable days.now }
-    requires trips { All (λ member. IsPatternTrip feed.now member.trip) members.now }
-    ensures { (times : Times) → IsFirst (IsRideOfOne feed.now times days.now members.now
+    requires trips { All (λ trip. IsPatternTrip feed.now trip.trip) trips.now }
+    ensures { (times : Times) → IsFirst (IsRideOfOne feed.now times days.now trips.now
         from_row to_row earliest) result }
 {
     let mut found = None;
-    for number in 0..members.len() {
-        let trip = members[number].trip;
+    for number in 0..trips.len() {
+        let trip = trips[number].trip;
         let ride = first_of_trip(feed, days, trip, from_row, to_row, earliest);
         found = earlier(found, ride);
     }

@@ -6,9 +6,9 @@ ghost use Rattle.flex_model.specs.SoundQuery.{IsSoundDayTable};
 ghost use Rattle.flex_model.specs.declared.times.Times.{Times};
 ghost use Rattle.fixed_trips.specs.Patterns.{ArePatternsOf, IsFirst, IsOfPattern, IsPatternRide};
 
-use crate::members::{Member, members_of, members_with};
 use crate::numbering::patterns_of;
-use crate::pattern_rides::first_of_members;
+use crate::pattern_rides::first_of_trips;
+use crate::pattern_trips::{PatternTrip, pattern_trips_of, trips_with};
 use flex_model::{DayTable, Feed, Listed, Moment, NoMemory, Ride};
 use std::alloc::Global;
 use std::marker::Model;
@@ -22,7 +22,7 @@ pub struct PatternTable {
     // The pattern of each trip that belongs to one.
     patterns: Listed<Option<u32>>,
     // The trips that belong to one, in the order of their patterns.
-    members: Listed<Member>,
+    trips: Listed<PatternTrip>,
     count: u32,
 }
 
@@ -34,7 +34,7 @@ impl Model for PatternTable {
 
     ghost view = { λ table. table.patterns };
 
-    ghost invariant = { λ table. IsTable table.patterns table.members table.count };
+    ghost invariant = { λ table. IsTable table.patterns table.trips table.count };
 }
 
 impl PatternTable {
@@ -44,11 +44,11 @@ impl PatternTable {
         ensures { IfOk result (ArePatternsOf feed.now) }
     {
         let found = patterns_of(alloc, feed)?;
-        let members = members_of(alloc, found.patterns.as_slice())?;
+        let trips = pattern_trips_of(alloc, found.patterns.as_slice())?;
         let count = found.count;
         Ok(PatternTable {
             patterns: Listed::from_vec(found.patterns),
-            members,
+            trips,
             count,
         })
     }
@@ -88,7 +88,7 @@ impl PatternTable {
         ensures { (times : Times) → IsFirst (IsPatternRide feed.now times days.now self.now pattern
             from_row to_row earliest) result }
     {
-        let members = members_with(self.members.as_slice(), pattern);
-        first_of_members(feed, days, members, from_row, to_row, earliest)
+        let trips = trips_with(self.trips.as_slice(), pattern);
+        first_of_trips(feed, days, trips, from_row, to_row, earliest)
     }
 }

@@ -2,11 +2,11 @@
 use Rattle.std.proofs.Common.{rules, of_calls}
 use Rattle.std.specs.Prelude.{nat_le}
 use Rattle.std.proofs.lemmas.Fn.{always_returns_same}
-use Rattle.fixed_trips.proofs.PatternMembers.{parted_up_to, point_up_to}
-use Rattle.fixed_trips.proofs.members.count_up_to.Goals as goal
+use Rattle.fixed_trips.proofs.PatternTrips.{parted_up_to, point_up_to}
+use Rattle.fixed_trips.proofs.pattern_trips.count_up_to.Goals as goal
 
 pub returns-clause-point : goal.returns-clause-point
 returns-clause-point c =
-    point_up_to c.args.pattern c.args.members.now c.partition_point.result
+    point_up_to c.args.pattern c.args.trips.now c.partition_point.result
     (c.partition_point.ensures.partitioned (λ m. nat_le m.pattern c.args.pattern) (always_returns_same _ _ _ (λ a r f k. search (rules, of_calls)))
-    (parted_up_to c.args.pattern c.args.members.now c.requires))
+    (parted_up_to c.args.pattern c.args.trips.now c.requires))

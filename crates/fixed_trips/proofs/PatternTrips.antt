@@ -9,20 +9,20 @@ use Rattle.std.proofs.lemmas.List.Elements.{Contains-append_cases, Contains-appe
 use Rattle.std.proofs.lemmas.List.Sorted.{Contains-permutation, IsPermutation-sym}
 use Rattle.std.proofs.lemmas.Option.{none-some, same_Some, slice_get_within}
 use Rattle.flex_model.proofs.Found.{Contains-first, only_contained}
-use Rattle.fixed_trips.specs.PatternParts.{AreInOrder, HasMembers}
+use Rattle.fixed_trips.specs.PatternParts.{AreInOrder, HasPatternTrips}
 use Rattle.fixed_trips.specs.Patterns.{IsOfPattern}
-use Rattle.fixed_trips.specs.declared.members.Member.{Member}
+use Rattle.fixed_trips.specs.declared.pattern_trips.PatternTrip.{PatternTrip}
 
--- the members among the first trips
-abbrev pub HasEarly : List (Option ℕ) → ℕ → List Member → Type 0
-HasEarly patterns n members = (m : Member) → Contains members m ↔ (IsOfPattern patterns m.trip m.pattern × (m.trip < n))
+-- those among the first trips of the feed
+abbrev pub HasEarly : List (Option ℕ) → ℕ → List PatternTrip → Type 0
+HasEarly patterns n trips = (m : PatternTrip) → Contains trips m ↔ (IsOfPattern patterns m.trip m.pattern × (m.trip < n))
 
 pub none_early : (patterns : List (Option ℕ)) → HasEarly patterns 0 []
 none_early patterns m = (λ c. absurd (let lt = c.1 in omega (arith, lt)), λ h. absurd (let lt = h.1 in omega (arith, lt)))
 
 -- a trip without a pattern
-pub next_without : (patterns : List (Option ℕ)) (n : ℕ) (members : List Member) → slice_get patterns n ≡ Some None → HasEarly patterns n members → HasEarly patterns (n + 1) members
-next_without patterns n members is so_far m = (
+pub next_without : (patterns : List (Option ℕ)) (n : ℕ) (trips : List PatternTrip) → slice_get patterns n ≡ Some None → HasEarly patterns n trips → HasEarly patterns (n + 1) trips
+next_without patterns n trips is so_far m = (
   λ c. (let h = (so_far m).0 c in let lt = h.1 in (h.0, omega (arith, lt))),
   λ h. elim (cases_order m.trip n) [
     | inl e ↦ absurd (none-some m.pattern (same_Some None (Some m.pattern) (sym is ∙ subst (λ k. slice_get patterns k ≡ Some (Some m.pattern)) e h.0)))
@@ -32,11 +32,11 @@ next_without patterns n members is so_far m = (
 )
 
 -- a trip with a pattern
-pub next_with : (patterns : List (Option ℕ)) (n p : ℕ) (members : List Member) → slice_get patterns n ≡ Some (Some p) → HasEarly patterns n members
-    → HasEarly patterns (n + 1) (members ++ record { pattern = p; trip = n } ∷ [])
-next_with patterns n p members is so_far m =
-    let one : Member = record { pattern = p; trip = n } in (
-      λ c. elim (Contains-append_cases members (one ∷ []) m c) [
+pub next_with : (patterns : List (Option ℕ)) (n p : ℕ) (trips : List PatternTrip) → slice_get patterns n ≡ Some (Some p) → HasEarly patterns n trips
+    → HasEarly patterns (n + 1) (trips ++ record { pattern = p; trip = n } ∷ [])
+next_with patterns n p trips is so_far m =
+    let one : PatternTrip = record { pattern = p; trip = n } in (
+      λ c. elim (Contains-append_cases trips (one ∷ []) m c) [
         | inl old ↦ (let h = (so_far m).0 old in let lt = h.1 in (h.0, omega (arith, lt)))
         | inr new ↦ (
             let e : m ≡ one = only_contained one m new in
@@ -47,46 +47,46 @@ next_with patterns n p members is so_far m =
         | inl e ↦ (
             let q : m.pattern ≡ p = same_Some m.pattern p (same_Some (Some m.pattern) (Some p) (sym (subst (λ k. slice_get patterns k ≡ Some (Some m.pattern)) e h.0) ∙ is)) in
             let same : m ≡ one = ap (λ t. record { pattern = m.pattern; trip = t }) e ∙ ap (λ x. record { pattern = x; trip = n }) q in
-            Contains-append_right members (one ∷ []) m (subst (Contains (one ∷ [])) (sym same) (Contains-first one [])))
-        | inr (inl less) ↦ Contains-append_left members (one ∷ []) m ((so_far m).1 (h.0, less))
+            Contains-append_right trips (one ∷ []) m (subst (Contains (one ∷ [])) (sym same) (Contains-first one [])))
+        | inr (inl less) ↦ Contains-append_left trips (one ∷ []) m ((so_far m).1 (h.0, less))
         | inr (inr more) ↦ absurd (let lt = h.1 in omega (arith, lt, more))
       ],
     )
 
-pub all_early : (patterns : List (Option ℕ)) (n : ℕ) (members : List Member) → length patterns ≤ n → HasEarly patterns n members → HasMembers patterns members
-all_early patterns n members size so_far m = (
+pub all_early : (patterns : List (Option ℕ)) (n : ℕ) (trips : List PatternTrip) → length patterns ≤ n → HasEarly patterns n trips → HasPatternTrips patterns trips
+all_early patterns n trips size so_far m = (
   λ c. ((so_far m).0 c).0,
   λ h. (let within = slice_get_within patterns m.trip (Some m.pattern) h in (so_far m).1 (h, omega (arith, within, size))),
 )
 
--- the same members in another order
-pub moved_members : (patterns : List (Option ℕ)) (xs ys : List Member) → IsPermutation xs ys → HasMembers patterns xs → HasMembers patterns ys
-moved_members patterns xs ys moved has m = (
+-- the same trips in another order
+pub moved_trips : (patterns : List (Option ℕ)) (xs ys : List PatternTrip) → IsPermutation xs ys → HasPatternTrips patterns xs → HasPatternTrips patterns ys
+moved_trips patterns xs ys moved has m = (
   λ c. (has m).0 (Contains-permutation ys xs m (IsPermutation-sym xs ys moved) c),
   λ h. Contains-permutation xs ys m moved ((has m).1 h),
 )
 
 -- those with a lesser pattern stand first
-pub parted_below : (p : ℕ) (xs : List Member) → AreInOrder xs → IsPartitionedBy (λ m. nat_lt m.pattern p) xs
+pub parted_below : (p : ℕ) (xs : List PatternTrip) → AreInOrder xs → IsPartitionedBy (λ m. nat_lt m.pattern p) xs
 parted_below p xs ordered i j d le within e =
     let up = ordered i j d le within in
     let lt = ltb-true (get_or xs j d).pattern p e in
     lt-ltb (get_or xs i d).pattern p (omega (arith, up, lt))
 
-pub parted_up_to : (p : ℕ) (xs : List Member) → AreInOrder xs → IsPartitionedBy (λ m. nat_le m.pattern p) xs
+pub parted_up_to : (p : ℕ) (xs : List PatternTrip) → AreInOrder xs → IsPartitionedBy (λ m. nat_le m.pattern p) xs
 parted_up_to p xs ordered i j d le within e =
     let up = ordered i j d le within in
     let low = leb-true (get_or xs j d).pattern p e in
     le-leb (get_or xs i d).pattern p (omega (arith, up, low))
 
-pub point_below : (p : ℕ) (xs : List Member) (n : ℕ) → IsPartitionPoint (λ m. nat_lt m.pattern p ≡ true) (λ m. nat_lt m.pattern p ≡ false) xs n
+pub point_below : (p : ℕ) (xs : List PatternTrip) (n : ℕ) → IsPartitionPoint (λ m. nat_lt m.pattern p ≡ true) (λ m. nat_lt m.pattern p ≡ false) xs n
     → IsPartitionPoint (λ m. m.pattern < p) (λ m. p ≤ m.pattern) xs n
 point_below p xs n point = (
   λ k d low high. ltb-true (get_or xs k d).pattern p (point.0 k d low high),
   λ k d low high. ltb-false (get_or xs k d).pattern p (point.1 k d low high),
 )
 
-pub point_up_to : (p : ℕ) (xs : List Member) (n : ℕ) → IsPartitionPoint (λ m. nat_le m.pattern p ≡ true) (λ m. nat_le m.pattern p ≡ false) xs n
+pub point_up_to : (p : ℕ) (xs : List PatternTrip) (n : ℕ) → IsPartitionPoint (λ m. nat_le m.pattern p ≡ true) (λ m. nat_le m.pattern p ≡ false) xs n
     → IsPartitionPoint (λ m. m.pattern ≤ p) (λ m. p < m.pattern) xs n
 point_up_to p xs n point = (
   λ k d low high. leb-true (get_or xs k d).pattern p (point.0 k d low high),
@@ -94,10 +94,10 @@ point_up_to p xs n point = (
 )
 
 -- those of one pattern stand between two places
-module _ (xs : List Member) (p start end : ℕ) (low : start ≤ length xs) (high : end ≤ length xs)
+module _ (xs : List PatternTrip) (p start end : ℕ) (low : start ≤ length xs) (high : end ≤ length xs)
     (first : IsPartitionPoint (λ m. m.pattern < p) (λ m. p ≤ m.pattern) xs start)
     (last : IsPartitionPoint (λ m. m.pattern ≤ p) (λ m. p < m.pattern) xs end) where
-  placed : (k : ℕ) (m : Member) → k < length xs → get_or xs k m ≡ m → m.pattern ≡ p → (start ≤ k) × (k < end)
+  placed : (k : ℕ) (m : PatternTrip) → k < length xs → get_or xs k m ≡ m → m.pattern ≡ p → (start ≤ k) × (k < end)
   placed k m within is e = (
     elim (cases_lt k start) [
       | inl less ↦ absurd (let f = first.0 k m (omega arith) less in let g : (get_or xs k m).pattern ≡ m.pattern = ap (λ x. x.pattern) is in omega (arith, f, g, e))
@@ -109,7 +109,7 @@ module _ (xs : List Member) (p start end : ℕ) (low : start ≤ length xs) (hig
     ],
   )
 
-  pub stands_between : (m : Member) → Contains (between start end xs) m ↔ (Contains xs m × (m.pattern ≡ p))
+  pub stands_between : (m : PatternTrip) → Contains (between start end xs) m ↔ (Contains xs m × (m.pattern ≡ p))
   stands_between m = (
     λ c.
         let size : length (between start end xs) ≡ end - start = length-between xs start end high in
@@ -135,7 +135,7 @@ module _ (xs : List Member) (p start end : ℕ) (low : start ≤ length xs) (hig
   )
 
   -- where the last place stands before the first there is none
-  pub none_between : end < start → (m : Member) → Contains xs m → m.pattern ≡ p → ⊥
+  pub none_between : end < start → (m : PatternTrip) → Contains xs m → m.pattern ≡ p → ⊥
   none_between less m c e =
       let at = placed c.0 m c.1 c.2 e in
       let le : start ≤ c.0 = at.0 in

@@ -1,8 +1,0 @@
--- What stands between the two places has the pattern.
-use Rattle.fixed_trips.proofs.PatternMembers.{stands_between}
-use Rattle.fixed_trips.proofs.members.members_with.Goals as goal
-
-pub returns : goal.returns
-returns c = λ member.
-    stands_between c.args.members.now c.args.pattern c.count_before-start.result c.count_up_to-end.result
-    c.count_before-start.ensures.bound c.count_up_to-end.ensures.bound c.count_before-start.ensures.point c.count_up_to-end.ensures.point member
