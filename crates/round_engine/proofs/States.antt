@@ -5,13 +5,13 @@ use Rattle.std.proofs.lemmas.List.Elements.{All-push}
 use Rattle.round_engine.specs.declared.boarding.Boarding.{Boarding}
 use Rattle.round_engine.specs.declared.task.Task.{Task}
 use Rattle.round_engine.specs.Attained.{IsEntry, IsRoundState, IsSoundTask}
-use Rattle.round_engine.specs.Bags.{BagsGrow, Entry, bag_at, round_at}
+use Rattle.round_engine.specs.Bags.{BagsGrow, Entry, GainsAtLast, bag_at, round_at}
 use Rattle.round_engine.specs.Flat.{AreFirstBoardings, AreNextBoardings, labels_in, triples_from}
 use Rattle.round_engine.specs.Ridden.{AreRidden}
 use Rattle.round_engine.specs.Search.{AreFinalsWith, IsSearched}
 use Rattle.round_engine.specs.Searched.{IsSearchState}
 use Rattle.round_engine.proofs.Apart.{in_more}
-use Rattle.round_engine.proofs.Flats.{map_length}
+use Rattle.round_engine.proofs.Flats.{in_round_range, map_length}
 use Rattle.round_engine.proofs.RoundDone.{finals_with, next_round}
 use Rattle.round_engine.proofs.Rounds.{begun, gone_on}
 
@@ -36,6 +36,7 @@ round_begins task earlier ends state few = record {
   labels = λ i entry c. absurd (empty_bag (length task.feed.now.stops + 1) i entry c);
   ended_in_time = λ i seconds entry c egress in_time. absurd (empty_bag (length task.feed.now.stops + 1) i entry c);
   ends_are = λ t entry c. state.ends_are t entry (in_more ends t entry c);
+  pruned = λ i t entry over lt c d covers. empty_bag (length task.feed.now.stops + 1) i entry c;
 }
 
 in_pushed : (rounds : List (List (List Entry))) (round : List (List Entry)) (r i : ℕ) (x : Entry) → Contains (bag_at (round_at (rounds ++ round ∷ []) r) i) x
@@ -58,9 +59,9 @@ pub round_ends : (task : Task) → IsSoundTask task → (earlier : List (List (L
     → (length earlier ≡ 0 → AreFirstBoardings task boardings)
     → (0 < length earlier → AreNextBoardings task (round_at earlier (length earlier - 1)) boardings)
     → All (AreRidden task earlier round ends') boardings
-    → IsRoundState task earlier round ends' → BagsGrow (ends ++ [] ∷ []) ends'
+    → IsRoundState task earlier round ends' → BagsGrow (ends ++ [] ∷ []) ends' → GainsAtLast (ends ++ [] ∷ []) ends'
     → IsSearchState task (earlier ++ round ∷ []) ends'
-round_ends task sound earlier ends round ends' boardings state few first next ridden done grow =
+round_ends task sound earlier ends round ends' boardings state few first next ridden done grow at_last =
     let searched = gone_on task.feed.now task.times.now task.days.now task.query.now (triples_from 0 ends) (triples_from 0 ends') (map labels_in earlier) (labels_in round)
     sound.feed (subst (λ n. n ≤ task.query.now.transfers) (sym (map_length earlier)) few) state.searched
     (next_round task sound earlier round ends' done state.entries boardings ridden first next)
@@ -74,6 +75,14 @@ round_ends task sound earlier ends round ends' boardings state few first next ri
         | inr new ↦ subst (λ n. IsEntry task (n + 1) i entry) (sym new.0) (done.labels i entry new.1)
       ];
       ends_are = done.ends_are;
+      pruned = λ r i t entry over lt c d covers. elim (in_pushed earlier round r i entry c) [
+        | inl before ↦ (
+            let low = in_round_range earlier r i entry before in
+            let count = state.count in
+            let l = length_push ends [] in
+            state.pruned r i t entry over lt before (in_more ends t over (at_last t over (omega arith) d)) covers)
+        | inr new ↦ (let e = new.0 in done.pruned i t entry over (omega arith) new.1 d covers)
+      ];
     }
 
 -- no rounds
@@ -84,4 +93,5 @@ none_searched task = record {
   count = refl;
   entries = λ r i entry c. absurd (let lt = c.1 in omega arith);
   ends_are = λ t entry c. absurd (let lt = c.1 in omega arith);
+  pruned = λ r i t entry over lt c d covers. let few = c.1 in omega arith;
 }

@@ -1,16 +1,18 @@
 -- One offer more in a round.
-use Rattle.std.proofs.Common.{◌≡◌, inl, inr, ℕ, ◌+◌, ◌<◌, pos, ◌+ℤ◌, ◌≤ℤ◌, List, All, slice_index_or, length, refl, sym, ◌∙◌, ap, subst, arith}
+use Rattle.std.proofs.Common.{◌≡◌, inl, inr, ℕ, ◌+◌, ◌*◌, ◌<◌, pos, ◌+ℤ◌, ◌≤ℤ◌, List, All, Contains, slice_index_or, length, refl, sym, ◌∙◌, ap, subst, arith}
 use Rattle.std.specs.Borrow.{Bor}
-use Rattle.std.proofs.lemmas.Bool.{cases_order}
+use Rattle.std.proofs.lemmas.Bool.{cases_lt, cases_order}
+use Rattle.std.proofs.lemmas.Int.{ints}
 use Rattle.std.proofs.lemmas.List.{get_or_default}
 use Rattle.std.proofs.lemmas.List.Elements.{Contains-get_or}
 use Rattle.flex_model.specs.declared.moment.Deadline.{Deadline}
 use Rattle.flex_model.specs.Change.{HasEgress}
-use Rattle.flex_model.specs.Deadline.{lesser}
+use Rattle.flex_model.specs.Deadline.{IsNoLater, lesser}
 use Rattle.flex_model.specs.Journey.{limit}
 use Rattle.flex_model.proofs.Orders.{IsNoLater-lesser, IsNoLater_trans, lesser_left, lesser_right}
 use Rattle.flex_model.specs.declared.answer.Pair.{Pair}
 use Rattle.flex_model.specs.Triple.{CoversPair}
+use Rattle.booking_rules.specs.Departures.{later}
 use Rattle.ride_index.specs.declared.active_days.ActiveDays.{ActiveDays}
 use Rattle.ride_index.specs.declared.offered_run.OfferedRun.{OfferedRun}
 use Rattle.ride_index.specs.OfferedRuns.{AreOfferedFrom}
@@ -20,7 +22,7 @@ use Rattle.round_engine.specs.declared.boarding.Boarding.{Boarding}
 use Rattle.round_engine.specs.declared.label.Label.{Label}
 use Rattle.round_engine.specs.declared.task.Task.{Task}
 use Rattle.round_engine.specs.Attained.{AreEnds, IsEndKept, IsEntry, IsHeldNow, IsLabel, IsOfferFrom, IsRoundState, IsStep, ended, number_of}
-use Rattle.round_engine.specs.Bags.{BagsGrow, Entry, IsKept, IsKeptByAny, IsOffer, bag_at}
+use Rattle.round_engine.specs.Bags.{BagsGrow, Entry, GainsAtLast, IsKept, IsKeptByAny, IsOffer, bag_at}
 use Rattle.round_engine.specs.Chain.{deadline_up_to, pair_of, place_of}
 use Rattle.round_engine.specs.Made.{made_pair}
 use Rattle.round_engine.specs.Ridden.{AreRidden}
@@ -53,21 +55,22 @@ module _ (earlier : List (List (List Entry))) where
 
 module _ (task : Task) (earlier : List (List (List Entry))) where
   pub no_step : (round ends : List (List Entry)) → IsRoundState task earlier round ends → IsStep task earlier round ends round ends
-  no_step round ends state = record { state = state; round_grows = grow_refl round; ends_grow = grow_refl ends }
+  no_step round ends state = record { state = state; round_grows = grow_refl round; ends_grow = grow_refl ends; at_last = λ t entry lt c. c }
 
   pub steps : (a a' b b' c c' : List (List Entry)) → IsStep task earlier a a' b b' → IsStep task earlier b b' c c' → IsStep task earlier a a' c c'
   steps a a' b b' c c' p q = record {
     state = q.state;
     round_grows = grow_trans a b c p.round_grows q.round_grows;
     ends_grow = grow_trans a' b' c' p.ends_grow q.ends_grow;
+    at_last = λ t entry lt c. let e = p.ends_grow.count in p.at_last t entry lt (q.at_last t entry (omega arith) c);
   }
 
   -- an attained label is added
   pub label_added : (round ends round' ends' : List (List Entry)) (at : ℕ) (pair : Pair) (label : Bor Label) → IsRoundState task earlier round ends
       → IsLabel task (length earlier + 1) label.now → pair_of label.now ≡ pair → number_of (length task.feed.now.stops) (place_of label.now) ≡ at
-      → AreEnds task ends' → BagsGrow ends ends' → IsEndKept task label.now ends' → IsOffer at (pair, label) round round'
-      → IsStep task earlier round ends round' ends'
-  label_added round ends round' ends' at pair label state is same number are grow kept offer = record {
+      → AreEnds task ends' → BagsGrow ends ends' → GainsAtLast ends ends' → IsEndKept task label.now ends' → (IsKeptByAny ends pair → ⊥)
+      → IsOffer at (pair, label) round round' → IsStep task earlier round ends round' ends'
+  label_added round ends round' ends' at pair label state is same number are grow at_last kept unkept offer = record {
     state = record {
       widths = state.widths;
       width = offer.grows.count ∙ state.width;
@@ -85,9 +88,17 @@ module _ (task : Task) (earlier : List (List (List Entry))) where
             (subst (λ p. (p.arrival +ℤ pos seconds) ≤ℤ limit task.query.now) (ap (λ x. x.0) new.1 ∙ sym same) ends)))
       ];
       ends_are = are;
+      pruned = λ i t entry over lt c d covers.
+          let count = state.count in
+          let before : Contains (bag_at ends t) over = at_last t over (omega arith) d in
+          elim (offer.came i entry c) [
+            | inl old ↦ state.pruned i t entry over lt old before covers
+            | inr new ↦ unkept (t, record { entry = over; among = before; covers = subst (λ x. CoversPair over.0 x.0) new.1 covers })
+          ];
     };
     round_grows = offer.grows;
     ends_grow = grow;
+    at_last = at_last;
   }
 
 -- what each ride of a run makes of the boarding is held
@@ -160,6 +171,27 @@ module _ (task : Task) (earlier : List (List (List Entry))) (a a' b b' c c' : Li
       | inr (inr after) ↦ absurd (omega arith)
     ];
   }
+
+  -- if no later ride of the run can be booked later, each one is held with the last that was taken in
+  pub run_rest : (boarding : Boarding) (run : OfferedRun) → IsRunTaken task earlier boarding run a a' c c' (n + 1)
+      → IsNoLater (lesser (deadline_up_to boarding.parent) run.latest) (lesser (deadline_up_to boarding.parent) (nth_offer run n).deadline)
+      → IsRunHeld task earlier c c' boarding run
+  run_rest boarding run taken last k low = elim (cases_lt k (n + 1)) [
+    | inl before ↦ taken.held k before
+    | inr after ↦ (
+        let least : Deadline = deadline_up_to boarding.parent in
+        let late : Deadline = (nth_offer run k).deadline in
+        held_weaker earlier c c' (number_of (length task.feed.now.stops) run.ride.alight) (made_pair boarding (nth_offer run n)) (made_pair boarding (nth_offer run k))
+        (record {
+          deadline = IsNoLater_trans (lesser least late) (lesser least run.latest) (lesser least (nth_offer run n).deadline)
+              (IsNoLater-lesser (lesser least late) least run.latest (lesser_left least late)
+              (IsNoLater_trans (lesser least late) late run.latest (lesser_right least late) (lesser_right (later run.closes (60 * k)) run.latest)))
+              last;
+          arrival = omega (arith, ints);
+          walk = omega arith;
+        })
+        (taken.held n (omega arith)))
+  ]
 
   pub taken_more : (boarding : Boarding) (runs : List OfferedRun) (dummy : OfferedRun) → n < length runs → AreTaken task earlier boarding runs a a' b b' n
       → IsStep task earlier b b' c c' → IsRunHeld task earlier c c' boarding (slice_index_or runs n dummy)

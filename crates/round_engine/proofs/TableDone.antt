@@ -13,7 +13,7 @@ use Rattle.flex_model.specs.Answer.{IsParetoBest}
 use Rattle.flex_model.specs.Change.{HasEgress}
 use Rattle.flex_model.specs.Journey.{Attains, Reaches, limit}
 use Rattle.flex_model.specs.LabelTable.{IsClosed}
-use Rattle.flex_model.specs.Triple.{IsTripleBefore}
+use Rattle.flex_model.specs.Triple.{CoversPair, IsTripleBefore, pair_of_triple}
 use Rattle.flex_model.proofs.Found.{All-from_contains, none_contained}
 use Rattle.label_bag.specs.Bag.{IsBag}
 use Rattle.round_engine.specs.declared.label.Final.{Final}
@@ -100,4 +100,9 @@ table_done task sound rounds ends finals state count are bags apart =
                 (reaches_end task.feed.now task.times.now task.days.now task.query.now found.0 is.seconds (rides_of entry.1.now) (place_of entry.1.now)
                 (pair_of entry.1.now) is.label.count is.label.reaches is.egress is.in_time);
           })));
+      pruned = λ r i entry final c d few covers.
+          let found = of_finals 0 ends final (subst (λ these. Contains these final) are d) in
+          let e : final.triple.transfers ≡ found.0 + 0 = ap (λ x. x.triple.transfers) found.3 in
+          state.pruned r i found.0 entry found.1 (omega arith) c found.2
+          (subst (λ x. CoversPair (pair_of_triple x.triple) entry.0) found.3 covers);
     }

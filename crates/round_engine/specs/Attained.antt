@@ -20,7 +20,7 @@ use Rattle.round_engine.specs.declared.boarding.Boarding.{Boarding}
 use Rattle.round_engine.specs.declared.label.Label.{Label}
 use Rattle.round_engine.specs.declared.offer.Offer.{Offer}
 use Rattle.round_engine.specs.declared.task.Task.{Task}
-use Rattle.round_engine.specs.Bags.{BagsGrow, Entry, IsKept, IsKeptByAny, IsKeptInAny, bag_at}
+use Rattle.round_engine.specs.Bags.{BagsGrow, Entry, GainsAtLast, IsKept, IsKeptByAny, IsKeptInAny, IsPruned, bag_at}
 use Rattle.round_engine.specs.Chain.{pair_of, place_of, rides_of, round_of}
 use Rattle.round_engine.specs.Offers.{LeavesFrom}
 
@@ -94,8 +94,8 @@ module _ (task : Task) where
         offer.ride offer.deadline
     pub leaves : LeavesFrom boarding.place boarding.earliest offer.ride
 
-  -- What stands while a round goes on: its labels and the ends so far are attained, and labels from which
-  -- the destination is reached in time have an end that is as good.
+  -- What stands while a round goes on: its labels and the ends so far are attained, labels from which the
+  -- destination is reached in time have an end that is as good, and none is covered by an end of fewer rides.
   pub record IsRoundState (earlier : List (List (List Entry))) (round ends : List (List Entry))
       : Type 0 where
     pub widths : All (λ these. length these ≡ length task.feed.now.stops + 1) earlier
@@ -109,6 +109,7 @@ module _ (task : Task) where
         → (entry.0.arrival +ℤ pos seconds) ≤ℤ limit task.query.now
         → IsKeptByAny ends (ended task.query.now entry.0 seconds)
     pub ends_are : (t : ℕ) (entry : Entry) → Contains (bag_at ends t) entry → IsEnd (t + 1) entry
+    pub pruned : (i : ℕ) → IsPruned (length earlier) (bag_at round i) ends
 
   -- the state after some work on a round
   pub record IsStep (earlier : List (List (List Entry))) (round ends round' ends' : List (List Entry))
@@ -116,6 +117,7 @@ module _ (task : Task) where
     pub state : IsRoundState earlier round' ends'
     pub round_grows : BagsGrow round round'
     pub ends_grow : BagsGrow ends ends'
+    pub at_last : GainsAtLast ends ends'
 
 -- the pair is held at the place by the round, the ends or an earlier round
 abbrev pub IsHeldNow : List (List (List Entry)) → List (List Entry) → List (List Entry) → ℕ

@@ -2,7 +2,7 @@
 --
 -- A bag keeps a pair where one of its pairs covers it. Bags grow where each keeps what it kept before,
 -- also if better pairs take the place of others. This project's own.
-use Rattle.std.specs.Prelude.{◌≡◌, ◌⊎◌, ℕ, ◌<◌, List, [], All, Contains, length, slice_index_or}
+use Rattle.std.specs.Prelude.{◌≡◌, ◌⊎◌, ℕ, ◌+◌, ◌<◌, List, [], All, Contains, length, slice_index_or}
 use Rattle.std.specs.Borrow.{Bor}
 use Rattle.flex_model.specs.declared.answer.Pair.{Pair}
 use Rattle.flex_model.specs.Triple.{CoversPair}
@@ -48,6 +48,16 @@ abbrev pub AreApartBags : List (List Entry) → Type 0
 AreApartBags bags =
     (t later : ℕ) (a b : Entry) → t < later → Contains (bag_at bags t) a
     → Contains (bag_at bags later) b → CoversPair a.0 b.0 → ⊥
+
+-- what the bags gain is in the last one
+abbrev pub GainsAtLast : List (List Entry) → List (List Entry) → Type 0
+GainsAtLast old new = (t : ℕ) (entry : Entry) → t + 1 < length old → Contains (bag_at new t) entry
+    → Contains (bag_at old t) entry
+
+-- no pair of the bag is covered by one of the first bags, so many of them
+abbrev pub IsPruned : ℕ → List Entry → List (List Entry) → Type 0
+IsPruned count bag bags = (t : ℕ) (entry over : Entry) → t < count → Contains bag entry
+    → Contains (bag_at bags t) over → CoversPair over.0 entry.0 → ⊥
 
 -- the numbers are those of bags, and each bag that has labels is among them
 pub record AreMarked (bags : List (List Entry)) (marked : List ℕ) : Type 0 where

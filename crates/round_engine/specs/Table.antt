@@ -3,7 +3,8 @@
 -- The labels of each round are attained: each one's rides are a partial journey of as many rides as its round, which ends at
 -- its place with its pair. The table is closed under the finals' triples. These are just the Pareto-best ones, in order, and
 -- each final's label has a journey that has its triple. No label of a round and place covers another one,
--- and they stand in the order of a bag. This project's own.
+-- and they stand in the order of a bag. No label is covered by a final of fewer rides, whose transfers are fewer than the
+-- label's rides less one. This project's own.
 use Rattle.std.specs.Prelude.{◌≡◌, ◌↔◌, ℕ, suc, ◌+◌, ◌-◌, ◌<◌, pos, ◌+ℤ◌, List, [], ◌∷◌, ◌++◌, All, AllPairs, Contains, length, map}
 use Rattle.flex_model.specs.declared.answer.Triple.{Triple}
 use Rattle.flex_model.specs.declared.place.Place.{Place}
@@ -11,7 +12,7 @@ use Rattle.flex_model.specs.Answer.{IsParetoBest}
 use Rattle.flex_model.specs.Change.{HasEgress}
 use Rattle.flex_model.specs.Journey.{Attains, counted}
 use Rattle.flex_model.specs.LabelTable.{IsClosed}
-use Rattle.flex_model.specs.Triple.{IsTripleBefore}
+use Rattle.flex_model.specs.Triple.{CoversPair, IsTripleBefore, pair_of_triple}
 use Rattle.label_bag.specs.Bag.{IsBag}
 use Rattle.round_engine.specs.declared.label.Final.{Final}
 use Rattle.round_engine.specs.declared.task.Task.{Task}
@@ -61,6 +62,9 @@ module _ (task : Task) where
         ↔ IsParetoBest task.feed.now task.times.now task.days.now task.query.now triple
     pub rising : AllPairs IsTripleBefore (final_triples finals)
     pub each_final : All IsFinal finals
+    pub pruned : (r i : ℕ) (entry : Entry) (final : Final)
+        → Contains (bag_at (round_at rounds r) i) entry → Contains finals final
+        → final.triple.transfers < r → CoversPair (pair_of_triple final.triple) entry.0 → ⊥
 
 -- Bags that are apart, by number of transfers, give triples in order, none of which covers another.
 abbrev pub FinalsAreInOrder : Type 0

@@ -1,6 +1,7 @@
 // Labels, each with the one that it comes after.
 
 ghost use Rattle.std.specs.Prelude.{◌≡◌, IfOk};
+ghost use Rattle.round_engine.specs.Chain.{deadline_up_to};
 ghost use Rattle.round_engine.specs.Made.{IsMade, made_pair};
 ghost use Rattle.flex_model.specs.Deadline.{lesser};
 
@@ -46,16 +47,22 @@ pub(crate) fn earlier(a: Deadline, b: Deadline) -> Deadline
     }
 }
 
+/// The lesser one of the deadline and that of the rides up to the boarding.
+pub(crate) fn deadline_with(boarding: &Boarding<'_>, deadline: Deadline) -> Deadline
+    ensures { result ≡ lesser (deadline_up_to boarding.now.parent) deadline }
+{
+    match boarding.parent {
+        Some(parent) => earlier(parent.pair.deadline, deadline),
+        None => deadline,
+    }
+}
+
 /// What the boarded label has become once the offered ride is left.
 pub(crate) fn pair_after(boarding: &Boarding<'_>, offer: &Offer) -> Pair
     ensures { result ≡ made_pair boarding.now offer.now }
 {
-    let deadline = match boarding.parent {
-        Some(parent) => earlier(parent.pair.deadline, offer.deadline),
-        None => offer.deadline,
-    };
     Pair {
-        deadline,
+        deadline: deadline_with(boarding, offer.deadline),
         arrival: offer.ride.arrives,
         walk: boarding.walk,
     }

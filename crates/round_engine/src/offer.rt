@@ -53,8 +53,8 @@ fn minutes_after(moment: Moment, number: u32) -> Moment
     moment + seconds as i64
 }
 
-// Whether the one deadline is no later than the other.
-fn is_no_later(a: Deadline, b: Deadline) -> bool
+/// Whether the one deadline is no later than the other.
+pub(crate) fn is_no_later(a: Deadline, b: Deadline) -> bool
     ensures { IsTrue result ↔ IsNoLater a b }
 {
     a <= b

@@ -3,8 +3,10 @@
 ghost use Rattle.std.specs.Prelude.{◌≡◌, ◌<◌, ◌+◌, ℕ, All, Contains, IsTrue, OnOk, length};
 ghost use Rattle.flex_model.specs.declared.moment.Deadline.{Deadline};
 ghost use Rattle.flex_model.specs.declared.ride.Ride.{Ride};
+ghost use Rattle.flex_model.specs.Deadline.{IsNoLater, lesser};
 ghost use Rattle.round_engine.specs.Attained.{AreEnds, IsBoarding, IsEndKept, IsEndOf, IsHeldNow, IsInTime, IsLabel, IsOfferFrom, IsRoundState, IsSoundTask, IsStep, number_of};
-ghost use Rattle.round_engine.specs.Bags.{BagsGrow};
+ghost use Rattle.round_engine.specs.Bags.{BagsGrow, GainsAtLast, IsKeptByAny};
+ghost use Rattle.round_engine.specs.Chain.{deadline_up_to};
 ghost use Rattle.round_engine.specs.Made.{made_pair};
 ghost use Rattle.round_engine.specs.Ridden.{AreRidden};
 ghost use Rattle.round_engine.specs.declared.boarding.Boarding.{Boarding};
@@ -16,9 +18,9 @@ ghost use Rattle.ride_index.specs.declared.offered_run.OfferedRun.{OfferedRun};
 use crate::bags::{Bags, any_keeps};
 use crate::boarding::Boarding;
 use crate::ends::Ends;
-use crate::label::{Label, label_after, pair_after};
+use crate::label::{Label, deadline_with, label_after, pair_after};
 use crate::moments::{counted_walk, later, limit_of};
-use crate::offer::{Offer, offer_at, wanted_at};
+use crate::offer::{Offer, is_no_later, offer_at, wanted_at};
 use crate::places::number_in;
 use crate::task::{Lookups, Task};
 use bumpalo::Bump;
@@ -55,6 +57,7 @@ fn end_from<'a>(task: &Task<'_>, label: &'a Label<'a>, ends: &mut Ends<'a>) -> R
     requires ends { AreEnds task.now ends.old }
     ensures kept { OnOk result (IsEndKept task.now label.now ends.new) }
     ensures grow { OnOk result (BagsGrow ends.old ends.new) }
+    ensures at_last { OnOk result (GainsAtLast ends.old ends.new) }
     ensures ends { OnOk result (AreEnds task.now ends.new) }
 {
     let Some(pair) = end_of(task, label) else {
@@ -68,7 +71,8 @@ fn end_from<'a>(task: &Task<'_>, label: &'a Label<'a>, ends: &mut Ends<'a>) -> R
 fn is_held(earlier: &[Bags<'_>], round: &Bags<'_>, ends: &Ends<'_>, at: usize, pair: &Pair) -> bool
     requires earlier { All (λ these. at < length these) earlier.now }
     requires round { at < length round.now }
-    ensures { IsTrue result → IsHeldNow earlier.now round.now ends.now at pair.now }
+    ensures held { IsTrue result → IsHeldNow earlier.now round.now ends.now at pair.now }
+    ensures ended { IsKeptByAny ends.now pair.now → IsTrue result }
 {
     round.keeps(at, pair) || ends.keep(pair) || any_keeps(earlier, at, pair)
 }
@@ -105,7 +109,16 @@ fn take_in<'a>(
     Ok(())
 }
 
-// Takes the rides of the run after the boarding into the round.
+// Whether no ride of the run that is taken after the boarding can be booked later than the offered one.
+fn is_last_booked(boarding: &Boarding<'_>, run: &OfferedRun, offer: &Offer) -> bool
+    ensures { IsTrue result → IsNoLater (lesser (deadline_up_to boarding.now.parent) run.now.latest)
+        (lesser (deadline_up_to boarding.now.parent) offer.now.deadline) }
+{
+    let latest = deadline_with(boarding, run.latest);
+    is_no_later(latest, deadline_with(boarding, offer.deadline))
+}
+
+// Takes the rides of the run after the boarding into the round, up to one after which each could be booked no later.
 fn take_run<'a>(
     bump: &'a Bump<Global>,
     task: &Task<'_>,
@@ -128,15 +141,11 @@ fn take_run<'a>(
         (made_pair boarding.now (nth_offer run.now k))) }
 {
     for number in 0..run.count {
-        take_in(
-            bump,
-            task,
-            earlier,
-            round,
-            ends,
-            boarding,
-            &offer_at(run, number),
-        )?;
+        let offer = offer_at(run, number);
+        take_in(bump, task, earlier, round, ends, boarding, &offer)?;
+        if is_last_booked(boarding, run, &offer) {
+            return Ok(());
+        }
     }
     Ok(())
 }

@@ -1,6 +1,6 @@
 use Rattle.std.proofs.Common.{◌≡◌, ◌+◌, List, [], All, length, replicate, sym, ◌∙◌, ap, subst}
 use Rattle.round_engine.specs.Attained.{IsBoarding, IsRoundState}
-use Rattle.round_engine.specs.Bags.{BagsGrow, Entry}
+use Rattle.round_engine.specs.Bags.{BagsGrow, Entry, GainsAtLast}
 use Rattle.round_engine.specs.Ridden.{AreRidden}
 use Rattle.round_engine.proofs.States.{round_begins, round_ends}
 use Rattle.round_engine.proofs.engine.next_round.Goals as goal
@@ -26,3 +26,4 @@ returns c =
     (subst (All (AreRidden task c.args.earlier.now c.ride_on.new.round c.ride_on.new.ends)) c.as_slice-2.ensures.value c.in_ok-ride_on.ensures.ridden)
     c.in_ok-ride_on.ensures.step.state
     (subst (λ x. BagsGrow x c.ride_on.new.ends) c.in_ok-open.ensures c.in_ok-ride_on.ensures.step.ends_grow)
+    (subst (λ x. GainsAtLast x c.ride_on.new.ends) c.in_ok-open.ensures c.in_ok-ride_on.ensures.step.at_last)

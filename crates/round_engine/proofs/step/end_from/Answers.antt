@@ -22,5 +22,11 @@ returns-clause-ends c = λ t entry among. elim (c.in_ok-offer.ensures.offer.came
       (record { label = c.requires.label; seconds = of.0; egress = of.1; pair = of.3; in_time = of.2 })))
 ]
 
+pub returns-clause-at_last : goal.returns-clause-at_last
+returns-clause-at_last c = λ t entry before among. elim (c.in_ok-offer.ensures.offer.came t entry among) [
+  | inl old ↦ old
+  | inr new ↦ (let last = new.0 in absurd (omega arith))
+]
+
 pub end_of-requires-clause-label : goal.end_of-requires-clause-label
 end_of-requires-clause-label c = in_time c.args.task.now c.requires.task (length c.args.ends.now) c.args.label.now c.requires.label

@@ -1,4 +1,5 @@
 use Rattle.std.proofs.Common.{◌+◌, ◌<◌, length, sym, ◌∙◌, ap, subst}
+use Rattle.std.proofs.lemmas.Bool.{false≢true}
 use Rattle.round_engine.specs.Attained.{IsHeldNow, IsLabel, number_of}
 use Rattle.round_engine.specs.Made.{made_pair}
 use Rattle.round_engine.proofs.MadeLabels.{made_label}
@@ -31,7 +32,7 @@ pub returns-then-is_held-clause-held : goal.returns-then-is_held-clause-held
 returns-then-is_held-clause-held c =
     subst (λ n. IsHeldNow c.args.earlier.now c.args.round.now c.args.ends.now n (made_pair c.args.boarding.now c.args.offer.now)) c.number_in-at.ensures
     (subst (λ p. IsHeldNow c.args.earlier.now c.args.round.now c.args.ends.now c.number_in-at.result p) c.pair_after-pair.ensures
-    (c.is_held.ensures c.if-is_held.true))
+    (c.is_held.ensures.held c.if-is_held.true))
 
 pub end_from-requires-clause-label : goal.end_from-requires-clause-label
 end_from-requires-clause-label c =
@@ -58,4 +59,5 @@ returns-clause-step c =
     c.requires.boarding c.requires.offer c.requires.state.few c.in_ok-label.ensures)
     (made.pair ∙ sym c.pair_after-pair.ensures)
     (ap (number_of (length c.args.task.now.feed.now.stops)) made.place ∙ sym c.number_in-at.ensures)
-    c.in_ok-end_from.ensures.ends c.in_ok-end_from.ensures.grow c.in_ok-end_from.ensures.kept c.offer.ensures.offer
+    c.in_ok-end_from.ensures.ends c.in_ok-end_from.ensures.grow c.in_ok-end_from.ensures.at_last c.in_ok-end_from.ensures.kept
+    (λ kept. false≢true (sym c.if-is_held.false ∙ c.is_held.ensures.ended kept)) c.offer.ensures.offer
