@@ -129,16 +129,27 @@ fn arrival(run: &OfferedRun, alight: Place, booked: Deadline) -> Option<Moment> 
     None
 }
 
+// The earlier of two arrivals, where there is one.
+fn earlier(first: Option<Moment>, second: Option<Moment>) -> Option<Moment> {
+    match (first, second) {
+        (Some(first), Some(second)) => Some(first.min(second)),
+        (Some(first), None) => Some(first),
+        (None, second) => second,
+    }
+}
+
 // The same with the run of them that arrives first.
 fn first_arrival(runs: &[OfferedRun], alight: Place, booked: Deadline) -> Option<Moment> {
     let mut first = None;
     for run in runs {
-        let arrives = arrival(run, alight, booked);
-        if first.is_none() || arrives.is_some() && arrives < first {
-            first = arrives;
-        }
+        first = earlier(first, arrival(run, alight, booked));
     }
     first
+}
+
+// So many seconds after 08:00:00.
+fn at(seconds: i64) -> Deadline {
+    Deadline::At(EIGHT.saturating_add(seconds))
 }
 
 // From where to where, when one asks, from when on one leaves and by when one arrives, the moment up to which one may book, and
@@ -284,7 +295,6 @@ fn rides_in_a_group_are_offered(rt: HostRuntime) -> Result<(), Fail> {
         "t/direct.txt",
         b"from_id,to_id,seconds\nM,N,600\nN,M,300\nM,O,60\n" as &[u8],
     );
-    let at = |seconds: i64| Deadline::At(EIGHT.saturating_add(seconds));
     let cases = [
         ((M, N), ASKED, MORNING, at(0), Some(EIGHT + 600)),
         ((M, N), ASKED, MORNING, at(1), Some(EIGHT + 660)),
@@ -377,7 +387,6 @@ fn rides_from_or_to_a_window_are_offered(rt: HostRuntime) -> Result<(), Fail> {
         "t/direct.txt",
         b"from_id,to_id,seconds\nM,N,600\nP,M,600\n" as &[u8],
     );
-    let at = |seconds: i64| Deadline::At(EIGHT.saturating_add(seconds));
     let cases = [
         ((P, M), ASKED, MORNING, at(0), Some(EIGHT + 1_200)),
         ((P, M), ASKED, MORNING, at(600), Some(EIGHT + 1_200)),

@@ -73,7 +73,11 @@ fn assert_zone(
 }
 
 // The feed of the one trip with these stops and zones.
-fn feed_of(alloc: Global, stops: (&str, &[u8]), zones: (&str, &[u8])) -> Result<Feed, Fail>
+fn feed_of(
+    alloc: Global,
+    stops: (&'static str, &'static [u8]),
+    zones: (&'static str, &'static [u8]),
+) -> Result<Feed, Fail>
     ensures { IfOk result IsSoundFeed }
 {
     let files = [

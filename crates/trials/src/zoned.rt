@@ -40,7 +40,10 @@ pub(crate) const OUTSIDE: &[u8] = b"point_id,point_lat,point_lon\nP,50.0,6.0\n";
 pub(crate) const TEN_MINUTES: &[u8] = b"from_id,to_id,seconds\nP,M,600\n";
 
 /// The feed of the one trip with these records, booked by 17:00:00 of the day before.
-pub(crate) fn zone_feed(alloc: Global, stop_times: (&str, &[u8])) -> Result<Feed, Fail>
+pub(crate) fn zone_feed(
+    alloc: Global,
+    stop_times: (&'static str, &'static [u8]),
+) -> Result<Feed, Fail>
     ensures { IfOk result IsSoundFeed }
 {
     let files = [
@@ -53,8 +56,8 @@ pub(crate) fn zone_feed(alloc: Global, stop_times: (&str, &[u8])) -> Result<Feed
 pub(crate) fn zone_times(
     alloc: Global,
     feed: &Feed,
-    points: &[u8],
-    direct: &[u8],
+    points: &'static [u8],
+    direct: &'static [u8],
 ) -> Result<Times, Fail>
     requires { IsSoundFeed feed.now }
     ensures { IfOk result (AreSoundTimes feed.now) }
