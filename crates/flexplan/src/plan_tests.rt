@@ -93,20 +93,35 @@ struct Ended {
     err: MemSink,
 }
 
-// Plans over these files with others in place of some or beside them.
-fn planned(alloc: Global, others: &[Other<'_>]) -> Result<Ended, Fail> {
+const PLAN: [&str; 4] = ["plan", "a", "t", "q"];
+
+const LINT: [&str; 2] = ["lint", "a"];
+
+// These files with others in place of some or beside them, and without one.
+fn files_of(alloc: Global, others: &[Other<'_>], without: &str) -> Result<MemFiles, Fail> {
     let mut files = MemFiles::new(alloc);
     for (path, contents) in FILES.as_slice() {
-        files.add(path, contents.as_bytes())?;
+        if *path != without {
+            files.add(path, contents.as_bytes())?;
+        }
     }
     for (path, contents) in others {
         files.add(path, contents.as_bytes())?;
     }
-    let mut out = MemSink::new(alloc);
+    Ok(files)
+}
+
+// Runs the words over the files, with an output of which a put may fail.
+fn ran(alloc: Global, words: &[&str], files: &mut MemFiles, mut out: MemSink) -> Ended {
     let mut err = MemSink::new(alloc);
-    let words = ["plan", "a", "t", "q"];
-    let status = run(alloc, &words, &mut files, &mut out, &mut err);
-    Ok(Ended { status, out, err })
+    let status = run(alloc, words, files, &mut out, &mut err);
+    Ended { status, out, err }
+}
+
+// Plans over these files with others in place of some or beside them.
+fn planned(alloc: Global, others: &[Other<'_>]) -> Result<Ended, Fail> {
+    let mut files = files_of(alloc, others, "")?;
+    Ok(ran(alloc, &PLAN, &mut files, MemSink::new(alloc)))
 }
 
 // Asserts what `plan` prints over these files.
@@ -374,22 +389,24 @@ fn assert_changed(
     assert_planned(rt, alloc, &all, text)
 }
 
+const HOUR: &str = "M,D,2025-06-04T08:00:00Z,2025-06-03T12:00:00Z,1,60";
+
+const BOTH: &str = "query q1 2\njourney 2025-06-03T17:00:00Z 2025-06-04T09:00:00Z 0\n\
+    ride F1 20250604 1 2 M D 2025-06-04T08:00:00Z 2025-06-04T09:00:00Z\n\
+    journey never 2025-06-04T09:00:00Z 1\n\
+    ride X1 20250604 1 2 M N 2025-06-04T08:00:00Z 2025-06-04T08:20:00Z\n\
+    ride X2 20250604 1 2 O Q 2025-06-04T08:25:00Z 2025-06-04T08:40:00Z\n";
+
 #[test]
 fn one_changes_where_it_is_allowed(rt: HostRuntime) -> Result<(), Fail> {
     let alloc = rt.alloc();
     let none = ("b", "");
-    let both = "query q1 2\njourney 2025-06-03T17:00:00Z 2025-06-04T09:00:00Z 0\n\
-        ride F1 20250604 1 2 M D 2025-06-04T08:00:00Z 2025-06-04T09:00:00Z\n\
-        journey never 2025-06-04T09:00:00Z 1\n\
-        ride X1 20250604 1 2 M N 2025-06-04T08:00:00Z 2025-06-04T08:20:00Z\n\
-        ride X2 20250604 1 2 O Q 2025-06-04T08:25:00Z 2025-06-04T08:40:00Z\n";
-    let hour = "M,D,2025-06-04T08:00:00Z,2025-06-03T12:00:00Z,1,60";
-    assert_changed(&rt, alloc, hour, [none, none], both)?;
+    assert_changed(&rt, alloc, HOUR, [none, none], BOTH)?;
     let at_once = (
         "a/transfers.txt",
         "from_stop_id,to_stop_id,transfer_type,min_transfer_time\nN,O,2,\n",
     );
-    assert_changed(&rt, alloc, hour, [at_once, none], both)?;
+    assert_changed(&rt, alloc, HOUR, [at_once, none], BOTH)?;
     let shorter = "M,D,2025-06-04T08:00:00Z,2025-06-03T12:00:00Z,1,59";
     assert_changed(&rt, alloc, shorter, [none, none], NONE)?;
     // A change that takes a second more than there is, or that is forbidden.
@@ -402,7 +419,7 @@ fn one_changes_where_it_is_allowed(rt: HostRuntime) -> Result<(), Fail> {
         assert_changed(
             &rt,
             alloc,
-            hour,
+            HOUR,
             [("a/transfers.txt", transfers), none],
             alone,
         )?;
@@ -411,7 +428,7 @@ fn one_changes_where_it_is_allowed(rt: HostRuntime) -> Result<(), Fail> {
     let walks = ("t/walks.txt", "from_id,to_id,seconds\nQ,D,1200\nN,D,600\n");
     let walked = "query q1 1\njourney never 2025-06-04T08:30:00Z 0\n\
         ride X1 20250604 1 2 M N 2025-06-04T08:00:00Z 2025-06-04T08:20:00Z\n";
-    assert_changed(&rt, alloc, hour, [walks, none], walked)
+    assert_changed(&rt, alloc, HOUR, [walks, none], walked)
 }
 
 #[test]
@@ -498,4 +515,185 @@ fn many_journeys_have_one_answer(rt: HostRuntime) -> Result<(), Fail> {
     assert_eq!(rt; text.iter().filter(|byte| **byte == b'\n').count(), 10);
     others[5] = ("q", fewer.as_str());
     assert_planned(&rt, alloc, &others, NONE)
+}
+
+// The text with a byte order mark and CRLF line ends.
+fn as_produced(alloc: Global, text: &str) -> Result<String, Fail> {
+    let mut produced = String::from_str(alloc, "\u{feff}")?;
+    for line in text.lines() {
+        produced.push_str(line)?;
+        produced.push_str("\r\n")?;
+    }
+    Ok(produced)
+}
+
+// All columns of the reference, a station, a group with a trip of its own, a hole without places, a rule with texts, and files
+// that nothing here reads.
+const PRODUCED: [Other<'static>; 11] = [
+    (
+        "a/agency.txt",
+        "agency_id,agency_name,agency_url,agency_timezone,agency_lang,agency_phone,agency_fare_url,agency_email\n\
+         A,Dale Bus,http://localhost/,UTC,en,+00 555 0100,http://localhost/fares,bus@localhost\n",
+    ),
+    (
+        "a/stops.txt",
+        "stop_id,stop_code,stop_name,tts_stop_name,stop_desc,stop_lat,stop_lon,zone_id,stop_url,location_type,parent_station,stop_timezone,wheelchair_boarding,level_id,platform_code\n\
+         M,1,Market,,,50.0,5.02,,,,,,1,,\nN,2,North,,,50.0,5.03,,,0,K,,0,,a\nK,3,Central,,,50.0,5.03,,,1,,,0,,\n",
+    ),
+    (
+        "a/routes.txt",
+        "route_id,agency_id,route_short_name,route_long_name,route_desc,route_type,route_url,route_color,route_text_color,route_sort_order,continuous_pickup,continuous_drop_off,network_id\n\
+         R,A,1,One,,3,,FFFFFF,000000,1,,,\n",
+    ),
+    (
+        "a/trips.txt",
+        "route_id,service_id,trip_id,trip_headsign,trip_short_name,direction_id,block_id,shape_id,wheelchair_accessible,bikes_allowed\n\
+         R,W,F1,North,,0,,S,1,2\nR,W,G1,North,,0,,S,1,2\n",
+    ),
+    (
+        "a/stop_times.txt",
+        "trip_id,stop_sequence,location_id,location_group_id,start_pickup_drop_off_window,end_pickup_drop_off_window,pickup_type,drop_off_type,pickup_booking_rule_id,drop_off_booking_rule_id\n\
+         F1,1,Z,,08:00:00,10:00:00,2,1,B,\nF1,2,Z,,08:00:00,10:00:00,1,2,,B\n\
+         G1,1,,G,08:00:00,10:00:00,2,1,C,\nG1,2,,G,08:00:00,10:00:00,1,2,,C\n",
+    ),
+    (
+        "a/booking_rules.txt",
+        "booking_rule_id,booking_type,prior_notice_duration_min,prior_notice_last_day,prior_notice_last_time,message,phone_number,info_url\n\
+         B,2,,1,17:00:00,,,\nC,1,30,,,\"Call, or write\",+00 555 0100,http://localhost/call\n",
+    ),
+    (
+        "a/location_groups.txt",
+        "location_group_id,location_group_name\nG,Both\n",
+    ),
+    (
+        "a/location_group_stops.txt",
+        "location_group_id,stop_id\nG,M\nG,N\n",
+    ),
+    (
+        "a/feed_info.txt",
+        "feed_publisher_name,feed_publisher_url,feed_lang\nDale Bus,http://localhost/,en\n",
+    ),
+    (
+        "a/shapes.txt",
+        "shape_id,shape_pt_lat,shape_pt_lon,shape_pt_sequence\nS,50,5.02,1\nS,50,5.03,2\n",
+    ),
+    (
+        "a/calendar.txt",
+        "service_id,monday,tuesday,wednesday,thursday,friday,saturday,sunday,start_date,end_date\nW,1,1,1,1,1,0,0,20250101,20251231\n",
+    ),
+];
+
+#[test]
+fn a_feed_as_producers_write_it_is_planned(rt: HostRuntime) -> Result<(), Fail> {
+    let alloc = rt.alloc();
+    let mut files = files_of(alloc, &[], "")?;
+    for (path, text) in PRODUCED.as_slice() {
+        files.add(path, as_produced(alloc, text)?.as_bytes())?;
+    }
+    let zone =
+        "{\"type\":\"FeatureCollection\",\"features\":[{\"type\":\"Feature\",\"id\":\"Z\",\"properties\":{\"stop_name\":\"Dale\"},\"geometry\":{\"type\":\"Polygon\",\
+        \"coordinates\":[[[4.99,49.99],[5.05,49.99],[5.05,50.01],[4.99,50.01],[4.99,49.99]],\
+        [[5.04,49.995],[5.045,49.995],[5.045,49.999],[5.04,49.999],[5.04,49.995]]]}}]}\n";
+    files.add("a/locations.geojson", zone.as_bytes())?;
+    let ended = ran(alloc, &LINT, &mut files, MemSink::new(alloc));
+    assert_eq!(rt; ended.status, Status::Done);
+    assert!(rt; ended.out.bytes().is_empty());
+    let ended = ran(alloc, &PLAN, &mut files, MemSink::new(alloc));
+    assert_eq!(rt; ended.status, Status::Done);
+    assert_eq!(rt; ended.out.bytes(), BOOKED_THE_DAY_BEFORE.as_bytes());
+    Ok(())
+}
+
+#[test]
+fn each_fault_of_a_feed_is_told(rt: HostRuntime) -> Result<(), Fail> {
+    let alloc = rt.alloc();
+    let faulty = [
+        (
+            "a/stops.txt",
+            "stop_id,stop_lat,stop_lon\nM,50.0,5.02\n\"N\nx\",91,5.03\nM,50.0,5.02\n",
+        ),
+        (
+            "a/stop_times.txt",
+            "trip_id,stop_sequence,location_id,start_pickup_drop_off_window,end_pickup_drop_off_window,pickup_type,drop_off_type,pickup_booking_rule_id,drop_off_booking_rule_id\n\
+             F1,1,Z,08:00:00,,2,1,B,\nF1,2,Z,08:00:00,10:00:00,3,2,,B\n",
+        ),
+        (
+            "a/booking_rules.txt",
+            "booking_rule_id,booking_type,prior_notice_last_day,prior_notice_last_time\nB,2,1,\n",
+        ),
+    ];
+    let list = "fault stops.txt 3 BAD_COORDINATE\nfault stops.txt 4 DUPLICATE_KEY\n\
+        fault stop_times.txt 2 WINDOW_PAIR\nfault stop_times.txt 3 WINDOW_PICKUP\n\
+        fault booking_rules.txt 2 FIELD_MISSING\n";
+    for words in [PLAN.as_slice(), &LINT] {
+        let mut files = files_of(alloc, &faulty, "")?;
+        let ended = ran(alloc, words, &mut files, MemSink::new(alloc));
+        assert_eq!(rt; ended.status, Status::FeedFaulty);
+        assert_eq!(rt; ended.out.bytes(), list.as_bytes());
+        let mut files = files_of(alloc, &[], "a/trips.txt")?;
+        let ended = ran(alloc, words, &mut files, MemSink::new(alloc));
+        assert_eq!(rt; ended.status, Status::FeedFaulty);
+        assert_eq!(rt;
+            ended.out.bytes(),
+            b"fault trips.txt 0 MISSING_FILE\n".as_slice()
+        );
+    }
+    Ok(())
+}
+
+// The files of the change, and its query.
+fn changed_files(alloc: Global) -> Result<MemFiles, Fail> {
+    let [a, b, c, d, e, f, g] = CHANGES;
+    let asked = query(alloc, HOUR)?;
+    files_of(alloc, &[a, b, c, d, e, f, g, ("q", asked.as_str())], "")
+}
+
+#[test]
+fn each_fetch_that_fails_is_told(rt: HostRuntime) -> Result<(), Fail> {
+    let alloc = rt.alloc();
+    for (words, fetches, text) in [(PLAN.as_slice(), 18, BOTH), (&LINT, 13, "")] {
+        for number in 1..=fetches {
+            let mut files = changed_files(alloc)?;
+            files.fail_at(number)?;
+            let ended = ran(alloc, words, &mut files, MemSink::new(alloc));
+            assert_eq!(rt; ended.status, Status::ReadFault);
+            assert!(rt; ended.out.bytes().is_empty());
+            assert_eq!(rt; ended.err.bytes(), b"flexplan: read fault\n".as_slice());
+        }
+        let mut files = changed_files(alloc)?;
+        files.fail_at(fetches + 1)?;
+        let ended = ran(alloc, words, &mut files, MemSink::new(alloc));
+        assert_eq!(rt; ended.status, Status::Done);
+        assert_eq!(rt; ended.out.bytes(), text.as_bytes());
+    }
+    Ok(())
+}
+
+#[test]
+fn a_put_that_fails_leaves_the_beginning(rt: HostRuntime) -> Result<(), Fail> {
+    let alloc = rt.alloc();
+    for kept in [0, 1, BOTH.len() as u64 - 1] {
+        let mut out = MemSink::new(alloc);
+        out.fail_at(1, kept)?;
+        let ended = ran(alloc, &PLAN, &mut changed_files(alloc)?, out);
+        assert_eq!(rt; ended.status, Status::WriteFault);
+        assert_eq!(rt; ended.out.bytes(), &BOTH.as_bytes()[..kept as usize]);
+        assert!(rt; ended.err.bytes().is_empty());
+    }
+    let mut out = MemSink::new(alloc);
+    out.fail_at(2, 0)?;
+    let ended = ran(alloc, &PLAN, &mut changed_files(alloc)?, out);
+    assert_eq!(rt; ended.status, Status::Done);
+    // A put to the error stream that fails beside a fetch that does changes nothing.
+    let mut files = changed_files(alloc)?;
+    files.fail_at(3)?;
+    let mut err = MemSink::new(alloc);
+    err.fail_at(1, 0)?;
+    let mut out = MemSink::new(alloc);
+    assert_eq!(rt;
+        run(alloc, &PLAN, &mut files, &mut out, &mut err),
+        Status::ReadFault
+    );
+    assert!(rt; err.bytes().is_empty());
+    Ok(())
 }
