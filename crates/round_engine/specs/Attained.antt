@@ -112,8 +112,8 @@ module _ (task : Task) where
     pub pruned : (i : ℕ) → IsPruned (length earlier) (bag_at round i) ends
 
   -- the state after some work on a round
-  pub record IsStep (earlier : List (List (List Entry))) (round ends round' ends' : List (List Entry))
-      : Type 0 where
+  pub record IsStep (earlier : List (List (List Entry)))
+      (round ends round' ends' : List (List Entry)) : Type 0 where
     pub state : IsRoundState earlier round' ends'
     pub round_grows : BagsGrow round round'
     pub ends_grow : BagsGrow ends ends'

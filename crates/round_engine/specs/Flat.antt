@@ -37,7 +37,8 @@ triple_at transfers entry = record {
 -- the triples of the bags, where the first one has so many transfers
 abbrev pub triples_from : ℕ → List (List Entry) → List Triple
 triples_from transfers [] = []
-triples_from transfers (bag ∷ bags) = map (triple_at transfers) bag ++ triples_from (suc transfers) bags
+triples_from transfers (bag ∷ bags) =
+    map (triple_at transfers) bag ++ triples_from (suc transfers) bags
 
 -- one can board at the place by the moment, with no earlier a deadline and no longer a walk
 pub record IsBoarded (boardings : List Boarding) (place : Place) (moment : ℤ) (deadline : Deadline)

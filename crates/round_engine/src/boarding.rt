@@ -294,9 +294,10 @@ pub(crate) fn boardings_after<'a>(
     requires entries { AreEntries task.now earlier.now }
     requires none { into.old.items ≡ [] }
     ensures sound { OnOk result (All (IsBoarding task.now (length earlier.now)) into.new.items) }
-    ensures first { OnOk result (length earlier.now ≡ 0 → AreFirstBoardings task.now into.new.items) }
-    ensures next { OnOk result (0 < length earlier.now
-        → AreNextBoardings task.now (round_at earlier.now (length earlier.now - 1)) into.new.items) }
+    ensures first { OnOk result (length earlier.now ≡ 0
+        → AreFirstBoardings task.now into.new.items) }
+    ensures next { OnOk result (0 < length earlier.now → AreNextBoardings task.now
+        (round_at earlier.now (length earlier.now - 1)) into.new.items) }
 {
     match earlier.last() {
         None => {
