@@ -12,8 +12,24 @@ use Rattle.feed_meaning.specs.Rules.{Values}
 use Rattle.feed_meaning.specs.Tables.{Entry, entries_of}
 use Rattle.feed_rules.specs.Zones.{zone_values}
 use Rattle.feed_rules.specs.declared.known_ids.LinkTables.{LinkTables}
+use Rattle.feed_rules.specs.declared.known_ids.PlaceIds.{PlaceIds}
+use Rattle.feed_rules.specs.declared.known_ids.TripIds.{TripIds}
 use Rattle.feed_rules.specs.declared.links.LinkIds.{LinkIds}
 use Prim.Native.String.{String}
+
+-- the ids that trips name are those of the tables
+pub record AreTripIds (ids : TripIds) (tables : Tables) : Type 0 where
+  pub routes : HasIds ids.routes tables Routes "route_id"
+  pub calendar : HasIds ids.calendar tables Calendar "service_id"
+  pub dates : HasIds ids.dates tables CalendarDates "service_id"
+
+-- the ids of places are those of the tables
+pub record ArePlaceIds (ids : PlaceIds) (tables : Tables) : Type 0 where
+  pub stops : HasIds ids.stops tables Stops "stop_id"
+  pub stations : (text : List ℕ) → is_given text ≡ true
+      → list_any (bytes_eq text) ids.stations ≡ is_station tables text
+  pub groups : HasIds ids.groups tables LocationGroups "location_group_id"
+  pub zones : HasIds ids.zones tables Locations "id"
 
 -- the ids are those of the tables
 pub record StandFor (ids : LinkIds) (tables : Tables) : Type 0 where

@@ -8,7 +8,7 @@ ghost use Rattle.feed_tables.specs.Refusals.{is_given};
 ghost use Rattle.feed_meaning.specs.FeedLinks.{Tables, is_station};
 ghost use Rattle.feed_meaning.specs.Indexes.{HasIds};
 ghost use Rattle.feed_meaning.specs.Noted.{noted};
-ghost use Rattle.feed_rules.specs.Links.{AreTablesOf, StandFor, StandForColumn, records_in};
+ghost use Rattle.feed_rules.specs.Links.{ArePlaceIds, AreTablesOf, AreTripIds, StandFor, StandForColumn, records_in};
 ghost use Rattle.feed_rules.specs.Zones.{zone_values};
 
 use crate::links::LinkIds;
@@ -86,29 +86,71 @@ fn known_zones<'a>(
     }
 }
 
+// The ids that trips name.
+#[derive(Drop)]
+struct TripIds<'a> {
+    routes: Ids<'a>,
+    calendar: Ids<'a>,
+    dates: Ids<'a>,
+}
+
+// The ids of places, and of the stops that are stations and the like.
+#[derive(Drop)]
+struct PlaceIds<'a> {
+    stops: Ids<'a>,
+    stations: Ids<'a>,
+    groups: Ids<'a>,
+    zones: Ids<'a>,
+}
+
+fn trip_ids<'a>(alloc: Global, found: &LinkTables<'a>) -> Result<TripIds<'a>, NoMemory>
+    ensures { IfOk result (λ ids. (tables : Tables) → AreTablesOf found.now tables
+        → AreTripIds ids tables) }
+{
+    let routes = known_ids_in(alloc, found.routes, "route_id")?;
+    let calendar = known_ids_in(alloc, found.calendar, "service_id")?;
+    let dates = known_ids_in(alloc, found.dates, "service_id")?;
+    Ok(TripIds {
+        routes,
+        calendar,
+        dates,
+    })
+}
+
+fn place_ids<'a>(alloc: Global, found: &LinkTables<'a>) -> Result<PlaceIds<'a>, NoMemory>
+    ensures { IfOk result (λ ids. (tables : Tables) → AreTablesOf found.now tables
+        → ArePlaceIds ids tables) }
+{
+    let stops = known_ids_in(alloc, found.stops, "stop_id")?;
+    let stations = known_stations(alloc, found.stops)?;
+    let groups = known_ids_in(alloc, found.groups, "location_group_id")?;
+    let zones = known_zones(alloc, found.zones)?;
+    Ok(PlaceIds {
+        stops,
+        stations,
+        groups,
+        zones,
+    })
+}
+
 /// The ids of the tables and zones that records name.
 pub(crate) fn link_ids<'a>(alloc: Global, found: &LinkTables<'a>) -> Result<LinkIds<'a>, NoMemory>
     ensures { IfOk result (λ ids. (tables : Tables) → AreTablesOf found.now tables
         → StandFor ids tables) }
 {
-    let routes = known_ids_in(alloc, found.routes, "route_id")?;
-    let calendar = known_ids_in(alloc, found.calendar, "service_id")?;
-    let dates = known_ids_in(alloc, found.dates, "service_id")?;
+    let of_trips = trip_ids(alloc, found)?;
+    let of_places = place_ids(alloc, found)?;
     let trips = known_ids_in(alloc, found.trips, "trip_id")?;
-    let stops = known_ids_in(alloc, found.stops, "stop_id")?;
-    let stations = known_stations(alloc, found.stops)?;
-    let groups = known_ids_in(alloc, found.groups, "location_group_id")?;
-    let zones = known_zones(alloc, found.zones)?;
     let booking_rules = known_ids_in(alloc, found.booking_rules, "booking_rule_id")?;
     Ok(LinkIds {
-        routes,
-        calendar,
-        dates,
+        routes: of_trips.routes,
+        calendar: of_trips.calendar,
+        dates: of_trips.dates,
         trips,
-        stops,
-        stations,
-        groups,
-        zones,
+        stops: of_places.stops,
+        stations: of_places.stations,
+        groups: of_places.groups,
+        zones: of_places.zones,
         booking_rules,
     })
 }
