@@ -2,7 +2,7 @@
 
 use crate::judged::{AGENCY, CALENDAR, DAY_AHEAD, ONE_TRIP, ROUTES, STOPS};
 use crate::samples::{FEED, files_of};
-use crate::zoned::{BY_TEN, ZONE};
+use crate::zoned::{BY_TEN, ZONE, zone_feed};
 use feed_load::{GivenRow, Loaded, fill_times, load};
 use flex_io::LoadError;
 use flex_model::{Fault, FaultCode, Feed, InputFile, Listed, Spot};
@@ -37,6 +37,18 @@ fn a_clean_folder_is_loaded(rt: HostRuntime) -> Result<(), Fail> {
     };
     assert_eq!(rt; row.sequence, 2);
     assert_eq!(rt; row.spot, Spot::Stop(1));
+    Ok(())
+}
+
+// M and N lie in the zone, and so does K, where one can't board.
+#[test]
+fn the_stops_of_a_zone_are_loaded(rt: HostRuntime) -> Result<(), Fail> {
+    let feed = zone_feed(rt.alloc(), BY_TEN)?;
+    let [zone] = feed.zones.as_slice() else {
+        return Err("one zone".into());
+    };
+    assert!(rt; zone.id.as_str() == "Z");
+    assert!(rt; zone.stops.as_slice() == [0, 1].as_slice());
     Ok(())
 }
 

@@ -1,9 +1,7 @@
 //! Tests of the public functions of the crates below the program over whole feeds: days, bookings, rides, journeys, searches, loading.
-//! So none of those crates is proved once more for tests. Those of texts stand in `text_trials`.
+//! So none of those crates is proved once more for tests. Those that need no feed stand in `part_trials`.
 #![tactic(auto)]
 
-#[cfg(test)]
-mod bags;
 #[cfg(test)]
 mod bookings;
 #[cfg(test)]
@@ -38,8 +36,6 @@ mod searches;
 mod times_folders;
 #[cfg(test)]
 mod window_runs;
-#[cfg(test)]
-mod zone_indices;
 #[cfg(test)]
 mod zone_rides;
 #[cfg(test)]
