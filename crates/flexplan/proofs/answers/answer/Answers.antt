@@ -1,5 +1,9 @@
+use Rattle.std.proofs.Common.{refl}
 use Rattle.query_io.proofs.PrintedAnswers.{exact_printable}
 use Rattle.flexplan.proofs.answers.answer.Goals as goal
+
+pub exact_answers-requires-clause-of_query : goal.exact_answers-requires-clause-of_query
+exact_answers-requires-clause-of_query c = c.in_ok-days.ensures.of_query c.args.query.now refl
 
 pub write_answers-requires : goal.write_answers-requires
 write_answers-requires c =

@@ -1,6 +1,12 @@
-use Rattle.std.proofs.Common.{refl}
+use Rattle.std.proofs.Common.{◌≡◌, [], Err, refl, rules, subst, sym}
+use Rattle.flex_io.specs.declared.error.PutError.TheVariants.{NoMemory}
+use Rattle.flexplan.specs.Answers.{IsAnswerText}
+use Rattle.flexplan.specs.Texts.{PrintsAll}
 use Rattle.flexplan.proofs.Gains.{gains_nothing}
 use Rattle.flexplan.proofs.answers.print_answers.Goals as goal
 
 pub returns-in_err-build-clause-printed : goal.returns-in_err-build-clause-printed
-returns-in_err-build-clause-printed g c = gains_nothing _ _ (0, refl)
+returns-in_err-build-clause-printed g c =
+    let input = c.args.input.now in
+    let all : c.from_residual.result ≡ Err NoMemory = search rules in
+    gains_nothing _ _ (subst (λ r. PrintsAll (IsAnswerText input.feed input.times input.zone) input.queries r []) (sym all) (0, refl))
