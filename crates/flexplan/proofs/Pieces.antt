@@ -20,26 +20,29 @@ use Rattle.flexplan.specs.Texts.{Texts}
 use Rattle.flexplan.specs.Words.{InputPaths}
 use Rattle.flexplan.proofs.Texts.{print_after}
 
-module _ (its : Feed) (own : Times) (header : List (List ℕ)) where
-  query_at : List (List ℕ) → Query
-  query_at fields = query_of its own (values_of header fields)
-
-  queries_in : List (List (List ℕ)) → List Query
+module _ (its : Feed) (own : Times) where
+  abbrev queries_in : List (List (List ℕ)) → List Query
   queries_in records = map (λ (e : Entry). query_of its own e.values) (entries_of records)
 
-  -- row numbers don't count
-  numbered : (n : ℕ) (rows : List (List (List ℕ)))
-      → map (λ (e : Entry). query_of its own e.values) (map (entry_of header) (numbered_from n rows)) ≡ map query_at rows
-  numbered n [] = refl
-  numbered n (fields ∷ rows) = ap (λ qs. query_at fields ∷ qs) (numbered (n + 1) rows)
+  abbrev query_at : List (List ℕ) → List (List ℕ) → Query
+  query_at header fields = query_of its own (values_of header fields)
 
-  in_order : (early later : List (List (List ℕ))) → queries_in (header ∷ (early ++ later)) ≡ queries_in (header ∷ early) ++ queries_in (header ∷ later)
-  in_order early later =
-      numbered 2 (early ++ later) ∙ map-append query_at early later
-      ∙ ap (λ qs. qs ++ map query_at later) (sym (numbered 2 early)) ∙ ap (λ qs. queries_in (header ∷ early) ++ qs) (sym (numbered 2 later))
+  -- row numbers don't count
+  numbered : (header : List (List ℕ)) (n : ℕ) (rows : List (List (List ℕ)))
+      → map (λ (e : Entry). query_of its own e.values) (map (entry_of header) (numbered_from n rows)) ≡ map (query_at header) rows
+  unfolding numbered_from
+  numbered header n [] = refl
+  numbered header n (fields ∷ rows) = ap (λ qs. query_at header fields ∷ qs) (numbered header (n + 1) rows)
+
+  in_order : (header : List (List ℕ)) (early later : List (List (List ℕ)))
+      → queries_in (header ∷ (early ++ later)) ≡ queries_in (header ∷ early) ++ queries_in (header ∷ later)
+  in_order header early later =
+      numbered header 2 (early ++ later) ∙ map-append (query_at header) early later
+      ∙ ap (λ qs. qs ++ map (query_at header) later) (sym (numbered header 2 early))
+      ∙ ap (λ qs. queries_in (header ∷ early) ++ qs) (sym (numbered header 2 later))
 
 module _ (bases : List ℤ) (its : Feed) (own : Times) where
-  answers_in : List (List (List ℕ)) → List Piece
+  abbrev answers_in : List (List (List ℕ)) → List Piece
   answers_in records = map (answer its own bases) (queries_in its own records)
 
   joined : (header : List (List ℕ)) (early later : List (List (List ℕ)))
@@ -49,7 +52,7 @@ module _ (bases : List ℤ) (its : Feed) (own : Times) where
       ∙ map-append (answer its own bases) (queries_in its own (header ∷ early)) (queries_in its own (header ∷ later))
 
 module _ (geo : Geo) (files : FileMap) (whole : InputPaths) (bases : List ℤ) where
-  records_of : InputPaths → List (List (List ℕ))
+  abbrev records_of : InputPaths → List (List (List ℕ))
   records_of paths = table_records (bytes_of (query_file files paths))
 
   -- a piece is read beside the feed and the times of the whole

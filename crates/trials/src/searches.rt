@@ -2,7 +2,7 @@
 
 ghost use Rattle.std.specs.Prelude.{◌<◌};
 ghost use Rattle.flex_model.specs.SoundFeed.{IsSoundFeed};
-ghost use Rattle.flex_model.specs.SoundQuery.{IsDayTableOf, IsSoundDayTable, IsSoundQuery};
+ghost use Rattle.flex_model.specs.SoundQuery.{IsSoundQuery};
 ghost use Rattle.flex_model.specs.SoundTimes.{AreSoundTimes};
 
 use crate::judged::{
@@ -14,11 +14,11 @@ use crate::zoned::{BY_TEN, BY_TEN_PAST_EIGHT, INSIDE, TEN_MINUTES, ZONE};
 use bumpalo::Bump;
 use feed_load::{Loaded, load};
 use flex_io::MemFiles;
-use flex_model::{DayTable, Deadline, Feed, Moment, Place, Query, Ride, Times, Triple};
+use flex_model::{Deadline, Feed, Moment, Place, Query, Ride, Times, Triple};
 use journey_rebuild::rebuild;
 use place_times::{LoadedTimes, load_times};
 use round_engine::search;
-use service_days::day_table;
+use service_days::{ZoneValue, day_table};
 use std::alloc::Global;
 use std::process::Abort;
 use std::test::Fail;
@@ -47,18 +47,17 @@ fn assert_best(
     alloc: Global,
     feed: &Feed,
     times: &Times,
-    days: &DayTable,
+    zone: &ZoneValue,
     query: &Query,
     best: &[Best<'_>],
 ) -> Result<(), Fail>
     requires feed { IsSoundFeed feed.now }
     requires times { AreSoundTimes feed.now times.now }
-    requires days { IsSoundDayTable days.now }
-    requires of_query { IsDayTableOf query.now days.now }
     requires query { IsSoundQuery feed.now times.now query.now }
 {
+    let days = day_table(alloc, zone, query.depart)?;
     let bump = Bump::new(alloc);
-    let table = search(alloc, &bump, feed, times, days, query)?;
+    let table = search(alloc, &bump, feed, times, &days, query)?;
     let finals = table.finals();
     assert_eq!(rt; finals.len(), best.len());
     for (found, (triple, rides)) in finals.iter().zip(best) {
@@ -85,11 +84,11 @@ fn assert_answer(
         return Err("the times have faults".into());
     };
     let queries = queries_of(alloc, &feed, &times, record)?;
-    let [query] = queries.as_slice() else {
-        return Err("one query".into());
-    };
-    let days = day_table(alloc, &zone, query.depart)?;
-    assert_best(rt, alloc, &feed, &times, &days, query, best)
+    for query in &queries {
+        assert_best(rt, alloc, &feed, &times, &zone, query, best)?;
+    }
+    assert_eq!(rt; queries.len(), 1);
+    Ok(())
 }
 
 // The same over the sample, with other files in place of its own.
@@ -115,10 +114,10 @@ const TO_M: Ride = Ride {
 };
 
 // The ride that is so many seconds later.
-const fn later(ride: Ride, seconds: i64) -> Ride {
+fn later(ride: Ride, seconds: i64) -> Ride {
     Ride {
-        departs: ride.departs + seconds,
-        arrives: ride.arrives + seconds,
+        departs: ride.departs.saturating_add(seconds),
+        arrives: ride.arrives.saturating_add(seconds),
         ..ride
     }
 }

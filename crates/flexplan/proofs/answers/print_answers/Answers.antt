@@ -5,8 +5,8 @@ use Rattle.flexplan.specs.Texts.{PrintsAll}
 use Rattle.flexplan.proofs.Gains.{gains_nothing}
 use Rattle.flexplan.proofs.answers.print_answers.Goals as goal
 
-pub returns-in_err-build-clause-printed : goal.returns-in_err-build-clause-printed
-returns-in_err-build-clause-printed g c =
+pub returns-in_err-index-clause-printed : goal.returns-in_err-index-clause-printed
+returns-in_err-index-clause-printed g c =
     let input = c.args.input.now in
     let all : c.from_residual.result ≡ Err NoMemory = search rules in
     gains_nothing _ _ (subst (λ r. PrintsAll (IsAnswerText input.feed input.times input.zone) input.queries r []) (sym all) (0, refl))
