@@ -53,29 +53,12 @@ const BOOKED_THE_DAY_BEFORE: &str = "query q1 1\n\
     journey 2025-06-03T17:00:00Z 2025-06-04T08:10:00Z 0\n\
     ride F1 20250604 1 2 P M 2025-06-04T08:00:00Z 2025-06-04T08:10:00Z\n";
 
-// The first window ends at 08:03:00.
-const FOUR_DEPARTURES: Other<'static> = (
-    "a/stop_times.txt",
-    "trip_id,stop_sequence,location_id,start_pickup_drop_off_window,end_pickup_drop_off_window,pickup_type,drop_off_type,pickup_booking_rule_id,drop_off_booking_rule_id\n\
-     F1,1,Z,08:00:00,08:03:00,2,1,B,\nF1,2,Z,08:00:00,10:00:00,1,2,,B\n",
-);
-
 // The second one ends at 08:10:00.
 const ONE_ARRIVAL: Other<'static> = (
     "a/stop_times.txt",
     "trip_id,stop_sequence,location_id,start_pickup_drop_off_window,end_pickup_drop_off_window,pickup_type,drop_off_type,pickup_booking_rule_id,drop_off_booking_rule_id\n\
      F1,1,Z,08:00:00,10:00:00,2,1,B,\nF1,2,Z,08:00:00,08:10:00,1,2,,B\n",
 );
-
-const BOOKED_UP_TO_EACH: &str = "query q1 4\n\
-    journey 2025-06-04T08:00:00Z 2025-06-04T08:10:00Z 0\n\
-    ride F1 20250604 1 2 P M 2025-06-04T08:00:00Z 2025-06-04T08:10:00Z\n\
-    journey 2025-06-04T08:01:00Z 2025-06-04T08:11:00Z 0\n\
-    ride F1 20250604 1 2 P M 2025-06-04T08:01:00Z 2025-06-04T08:11:00Z\n\
-    journey 2025-06-04T08:02:00Z 2025-06-04T08:12:00Z 0\n\
-    ride F1 20250604 1 2 P M 2025-06-04T08:02:00Z 2025-06-04T08:12:00Z\n\
-    journey 2025-06-04T08:03:00Z 2025-06-04T08:13:00Z 0\n\
-    ride F1 20250604 1 2 P M 2025-06-04T08:03:00Z 2025-06-04T08:13:00Z\n";
 
 const NONE: &str = "query q1 0\n";
 
@@ -163,122 +146,6 @@ fn rides_in_a_zone_are_booked_in_time(rt: HostRuntime) -> Result<(), Fail> {
     assert_planned(&rt, alloc, &[ONE_ARRIVAL, longer], NONE)
 }
 
-#[test]
-fn each_rule_has_its_last_moment(rt: HostRuntime) -> Result<(), Fail> {
-    let alloc = rt.alloc();
-    let by_duration = "booking_rule_id,booking_type,prior_notice_duration_min\nB,1,30\n";
-    let between =
-        "booking_rule_id,booking_type,prior_notice_duration_min,prior_notice_duration_max\n";
-    let days =
-        "booking_rule_id,booking_type,prior_notice_last_day,prior_notice_last_time,prior_notice_service_id\n";
-    let opened = format!(in alloc; "{between}B,1,30,60\n")?;
-    let never = format!(in alloc; "{between}B,1,30,20\n")?;
-    let two_days = format!(in alloc; "{days}B,2,2,17:00:00,W\n")?;
-    let other_service = format!(in alloc; "{days}B,2,1,17:00:00,V\n")?;
-    let half_hours = "query q1 4\n\
-        journey 2025-06-04T07:30:00Z 2025-06-04T08:10:00Z 0\n\
-        ride F1 20250604 1 2 P M 2025-06-04T08:00:00Z 2025-06-04T08:10:00Z\n\
-        journey 2025-06-04T07:31:00Z 2025-06-04T08:11:00Z 0\n\
-        ride F1 20250604 1 2 P M 2025-06-04T08:01:00Z 2025-06-04T08:11:00Z\n\
-        journey 2025-06-04T07:32:00Z 2025-06-04T08:12:00Z 0\n\
-        ride F1 20250604 1 2 P M 2025-06-04T08:02:00Z 2025-06-04T08:12:00Z\n\
-        journey 2025-06-04T07:33:00Z 2025-06-04T08:13:00Z 0\n\
-        ride F1 20250604 1 2 P M 2025-06-04T08:03:00Z 2025-06-04T08:13:00Z\n";
-    let no_date = ("b", "");
-    for (others, fields, text) in [
-        // Up to the departure.
-        (
-            [
-                FOUR_DEPARTURES,
-                (
-                    "a/booking_rules.txt",
-                    "booking_rule_id,booking_type,prior_notice_last_day,prior_notice_last_time\nB,0,,\n",
-                ),
-                no_date,
-            ],
-            "P,M,2025-06-04T07:30:00Z,2025-06-03T12:00:00Z,0,240",
-            BOOKED_UP_TO_EACH,
-        ),
-        // Up to noon of the day, and so up to the departure.
-        (
-            [
-                FOUR_DEPARTURES,
-                (
-                    "a/booking_rules.txt",
-                    "booking_rule_id,booking_type,prior_notice_last_day,prior_notice_last_time\nB,2,0,12:00:00\n",
-                ),
-                no_date,
-            ],
-            "P,M,2025-06-04T07:30:00Z,2025-06-03T12:00:00Z,0,240",
-            BOOKED_UP_TO_EACH,
-        ),
-        // Up to half an hour before.
-        (
-            [("a/booking_rules.txt", by_duration), no_date, no_date],
-            "P,M,2025-06-04T07:30:00Z,2025-06-04T09:20:00Z,0,240",
-            "query q1 1\njourney 2025-06-04T09:20:00Z 2025-06-04T10:00:00Z 0\n\
-             ride F1 20250604 1 2 P M 2025-06-04T09:50:00Z 2025-06-04T10:00:00Z\n",
-        ),
-        (
-            [("a/booking_rules.txt", by_duration), no_date, no_date],
-            "P,M,2025-06-04T07:30:00Z,2025-06-04T09:20:01Z,0,240",
-            NONE,
-        ),
-        // It opens an hour before, which is later than now.
-        (
-            [
-                FOUR_DEPARTURES,
-                ("a/booking_rules.txt", opened.as_str()),
-                no_date,
-            ],
-            "P,M,2025-06-04T07:30:00Z,2025-06-04T05:00:00Z,0,240",
-            half_hours,
-        ),
-        // It opens after it closes.
-        (
-            [
-                FOUR_DEPARTURES,
-                ("a/booking_rules.txt", never.as_str()),
-                no_date,
-            ],
-            "P,M,2025-06-04T07:30:00Z,2025-06-04T05:00:00Z,0,240",
-            NONE,
-        ),
-        // Two days back of service W, which doesn't run on Friday, 6 June, nor at the weekend.
-        (
-            [
-                ("a/booking_rules.txt", two_days.as_str()),
-                (
-                    "a/calendar_dates.txt",
-                    "service_id,date,exception_type\nW,20250606,2\n",
-                ),
-                no_date,
-            ],
-            "P,M,2025-06-09T07:30:00Z,2025-06-02T12:00:00Z,0,240",
-            "query q1 1\njourney 2025-06-04T17:00:00Z 2025-06-09T08:10:00Z 0\n\
-             ride F1 20250609 1 2 P M 2025-06-09T08:00:00Z 2025-06-09T08:10:00Z\n",
-        ),
-        // There is no day before of service V.
-        (
-            [
-                ("a/booking_rules.txt", other_service.as_str()),
-                (
-                    "a/calendar_dates.txt",
-                    "service_id,date,exception_type\nV,20250604,1\n",
-                ),
-                no_date,
-            ],
-            "P,M,2025-06-04T07:30:00Z,2025-06-03T12:00:00Z,0,240",
-            NONE,
-        ),
-    ] {
-        let asked = query(alloc, fields)?;
-        let all = [("q", asked.as_str()), others[0], others[1], others[2]];
-        assert_planned(&rt, alloc, &all, text)?;
-    }
-    Ok(())
-}
-
 // The clocks of New York go forward on 2025-03-09 and back on 2025-11-02.
 #[test]
 fn days_of_windows_begin_in_the_zone(rt: HostRuntime) -> Result<(), Fail> {
@@ -364,31 +231,6 @@ const CHANGES: [Other<'static>; 7] = [
     ("t/walks.txt", "from_id,to_id,seconds\nQ,D,1200\n"),
 ];
 
-// What `plan` prints with the change, and these files in place of some.
-fn assert_changed(
-    rt: &impl Abort,
-    alloc: Global,
-    fields: &str,
-    others: [Other<'_>; 2],
-    text: &str,
-) -> Result<(), Fail> {
-    let [a, b, c, d, e, f, g] = CHANGES;
-    let asked = query(alloc, fields)?;
-    let all = [
-        a,
-        b,
-        c,
-        d,
-        e,
-        f,
-        g,
-        ("q", asked.as_str()),
-        others[0],
-        others[1],
-    ];
-    assert_planned(rt, alloc, &all, text)
-}
-
 const HOUR: &str = "M,D,2025-06-04T08:00:00Z,2025-06-03T12:00:00Z,1,60";
 
 const BOTH: &str = "query q1 2\njourney 2025-06-03T17:00:00Z 2025-06-04T09:00:00Z 0\n\
@@ -396,61 +238,6 @@ const BOTH: &str = "query q1 2\njourney 2025-06-03T17:00:00Z 2025-06-04T09:00:00
     journey never 2025-06-04T09:00:00Z 1\n\
     ride X1 20250604 1 2 M N 2025-06-04T08:00:00Z 2025-06-04T08:20:00Z\n\
     ride X2 20250604 1 2 O Q 2025-06-04T08:25:00Z 2025-06-04T08:40:00Z\n";
-
-#[test]
-fn one_changes_where_it_is_allowed(rt: HostRuntime) -> Result<(), Fail> {
-    let alloc = rt.alloc();
-    let none = ("b", "");
-    assert_changed(&rt, alloc, HOUR, [none, none], BOTH)?;
-    let at_once = (
-        "a/transfers.txt",
-        "from_stop_id,to_stop_id,transfer_type,min_transfer_time\nN,O,2,\n",
-    );
-    assert_changed(&rt, alloc, HOUR, [at_once, none], BOTH)?;
-    let shorter = "M,D,2025-06-04T08:00:00Z,2025-06-03T12:00:00Z,1,59";
-    assert_changed(&rt, alloc, shorter, [none, none], NONE)?;
-    // A change that takes a second more than there is, or that is forbidden.
-    let alone = "query q1 1\njourney 2025-06-03T17:00:00Z 2025-06-04T09:00:00Z 0\n\
-        ride F1 20250604 1 2 M D 2025-06-04T08:00:00Z 2025-06-04T09:00:00Z\n";
-    for transfers in [
-        "from_stop_id,to_stop_id,transfer_type,min_transfer_time\nN,O,2,301\n",
-        "from_stop_id,to_stop_id,transfer_type,min_transfer_time\nN,O,3,\n",
-    ] {
-        assert_changed(
-            &rt,
-            alloc,
-            HOUR,
-            [("a/transfers.txt", transfers), none],
-            alone,
-        )?;
-    }
-    // A walk from the first change is faster than both.
-    let walks = ("t/walks.txt", "from_id,to_id,seconds\nQ,D,1200\nN,D,600\n");
-    let walked = "query q1 1\njourney never 2025-06-04T08:30:00Z 0\n\
-        ride X1 20250604 1 2 M N 2025-06-04T08:00:00Z 2025-06-04T08:20:00Z\n";
-    assert_changed(&rt, alloc, HOUR, [walks, none], walked)
-}
-
-#[test]
-fn walking_counts_where_it_is_asked_for(rt: HostRuntime) -> Result<(), Fail> {
-    let alloc = rt.alloc();
-    let asked = (
-        "q",
-        "query_id,origin,destination,depart,now,transfers,horizon,walking\nq1,M,D,2025-06-04T08:00:00Z,2025-06-03T12:00:00Z,1,60,1\n",
-    );
-    let by_changing = "query q1 2 walking\njourney 2025-06-03T17:00:00Z 2025-06-04T09:00:00Z 0 0\n\
-        ride F1 20250604 1 2 M D 2025-06-04T08:00:00Z 2025-06-04T09:00:00Z\n\
-        journey never 2025-06-04T09:00:00Z 1 1500\n\
-        ride X1 20250604 1 2 M N 2025-06-04T08:00:00Z 2025-06-04T08:20:00Z\n\
-        ride X2 20250604 1 2 O Q 2025-06-04T08:25:00Z 2025-06-04T08:40:00Z\n";
-    assert_changed(&rt, alloc, "", [asked, ("b", "")], by_changing)?;
-    let walks = ("t/walks.txt", "from_id,to_id,seconds\nQ,D,1200\nN,D,600\n");
-    let by_walking = "query q1 2 walking\njourney never 2025-06-04T08:30:00Z 0 600\n\
-        ride X1 20250604 1 2 M N 2025-06-04T08:00:00Z 2025-06-04T08:20:00Z\n\
-        journey 2025-06-03T17:00:00Z 2025-06-04T09:00:00Z 0 0\n\
-        ride F1 20250604 1 2 M D 2025-06-04T08:00:00Z 2025-06-04T09:00:00Z\n";
-    assert_changed(&rt, alloc, "", [asked, walks], by_walking)
-}
 
 // Nine stops, and between each two of them thirty trips, every one of which meets each of those to the next stop.
 fn legs(alloc: Global) -> Result<(String, String, String), Fail> {
@@ -677,7 +464,8 @@ fn a_put_that_fails_leaves_the_beginning(rt: HostRuntime) -> Result<(), Fail> {
         out.fail_at(1, kept)?;
         let ended = ran(alloc, &PLAN, &mut changed_files(alloc)?, out);
         assert_eq!(rt; ended.status, Status::WriteFault);
-        assert_eq!(rt; ended.out.bytes(), &BOTH.as_bytes()[..kept as usize]);
+        assert!(rt; BOTH.as_bytes().starts_with(ended.out.bytes()));
+        assert_eq!(rt; ended.out.bytes().len() as u64, kept);
         assert!(rt; ended.err.bytes().is_empty());
     }
     let mut out = MemSink::new(alloc);
