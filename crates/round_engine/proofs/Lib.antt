@@ -5,7 +5,6 @@ pub mod Flats
 pub mod Kept
 pub mod MadeLabels
 pub mod Numbers
-pub mod Reached
 pub mod RoundDone
 pub mod Rounds
 pub mod States

@@ -18,7 +18,7 @@ use Rattle.round_engine.specs.declared.task.Task.{Task}
 use Rattle.round_engine.specs.Attained.{ComesFrom, IsBoarding, IsLabel, IsOfferFrom, IsSoundTask}
 use Rattle.round_engine.specs.Chain.{deadline_up_to, pair_of, place_of, rides_of, rides_up_to}
 use Rattle.round_engine.specs.Made.{IsMade, made_pair}
-use Rattle.round_engine.proofs.Reached.{first_reaches, next_reaches}
+use Rattle.flex_model.proofs.Extensions.{first_reaches, next_reaches}
 
 -- the label as one of a table
 abbrev pub table_label : Label → TableLabel

@@ -29,7 +29,7 @@ use Rattle.round_engine.specs.Ridden.{AreRidden}
 use Rattle.round_engine.specs.Search.{AreFinalsWith, IsNextRound}
 use Rattle.round_engine.proofs.Apart.{in_fewer, in_range}
 use Rattle.round_engine.proofs.Flats.{entry_of, in_earlier, in_last, in_round_range, in_triples, map_length, of_labels, of_triples}
-use Rattle.round_engine.proofs.Reached.{alights_at}
+use Rattle.flex_model.proofs.Extensions.{alights_at}
 use Rattle.round_engine.proofs.Steps.{held_weaker}
 
 stop_within : (task : Task) → IsSoundTask task → (s : ℕ) → IsLabelPlace task.feed.now task.query.now (Stop s) → s < length task.feed.now.stops

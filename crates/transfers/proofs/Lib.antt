@@ -1,5 +1,4 @@
 pub mod ChangeRows
-pub mod Numbers
 pub mod PartedRows
 pub mod PlaceSpans
 pub mod RulesFound

@@ -5,32 +5,12 @@ use Rattle.std.specs.List.{between}
 use Rattle.std.specs.List.Sorted.{IsPartitionPoint, IsPartitionedBy}
 use Rattle.std.specs.Ordering.{is_le, is_lt}
 use Rattle.flex_model.specs.declared.place.Place.{Place}
-use Rattle.flex_model.specs.declared.place.Place.TheVariants.{Stop, Point}
 use Rattle.flex_model.specs.declared.times.Span.{Span}
-use Rattle.flex_model.specs.Place.{IsPlaceBefore, place_cmp}
+use Rattle.flex_model.specs.Place.{place_cmp}
 use Rattle.flex_model.specs.Times.{IsSpanBefore}
 use Rattle.transfers.specs.Spans.{begins_before, begins_by}
-use Rattle.transfers.proofs.Numbers.{nat_equal, nat_rises, nat_same}
+use Rattle.flex_model.proofs.Spans.{place_equal, place_rises, place_same}
 use Rattle.transfers.proofs.PartedRows.{parted, stands_between}
-
-place_equal : (x y : Place) → place_cmp x y ≡ Equal → x ≡ y
-place_equal (Stop a) (Stop b) e = ap Stop (nat_equal a b e)
-place_equal (Stop a) (Point b) e = cc
-place_equal (Point a) (Stop b) e = cc
-place_equal (Point a) (Point b) e = ap Point (nat_equal a b e)
-
-place_same : (x : Place) → place_cmp x x ≡ Equal
-place_same (Stop a) = nat_same a
-place_same (Point a) = nat_same a
-
--- of two places in order the first is before a third, or the second is after it
-place_rises : (x y z : Place) → IsPlaceBefore x y → (place_cmp x z ≡ Less) ⊎ (place_cmp y z ≡ Greater)
-place_rises (Stop a) (Stop b) (Stop z) p = nat_rises a b z p
-place_rises (Stop a) y (Point z) p = inl refl
-place_rises (Stop a) (Point b) (Stop z) p = inr refl
-place_rises (Point a) (Stop b) z p = absurd p
-place_rises (Point a) (Point b) (Stop z) p = inr refl
-place_rises (Point a) (Point b) (Point z) p = nat_rises a b z p
 
 is_equal : (o : Ordering) → is_lt o ≡ false → is_le o ≡ true → o ≡ Equal
 is_equal Less e f = absurd (false≢true (sym e))

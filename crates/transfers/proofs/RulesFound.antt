@@ -7,7 +7,7 @@ use Rattle.flex_model.specs.declared.change.ChangeKind.{ChangeKind}
 use Rattle.flex_model.specs.declared.change.ChangeRow.{ChangeRow}
 use Rattle.flex_model.specs.SoundFeed.{IsChangeBefore}
 use Rattle.transfers.proofs.ChangeRows.{IsRule, absent_kind, found_kind, no_row}
-use Rattle.transfers.proofs.Numbers.{nat_equal, nat_rises, nat_same}
+use Rattle.flex_model.proofs.Spans.{nat_equal, nat_rises, nat_same}
 use Rattle.transfers.specs.ChangeOrder.{change_cmp}
 
 then_equal : (o p : Ordering) → ordering_then o p ≡ Equal → (o ≡ Equal) × (p ≡ Equal)

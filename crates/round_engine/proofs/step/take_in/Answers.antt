@@ -4,7 +4,7 @@ use Rattle.round_engine.specs.Attained.{IsHeldNow, IsLabel, number_of}
 use Rattle.round_engine.specs.Made.{made_pair}
 use Rattle.round_engine.proofs.MadeLabels.{made_label}
 use Rattle.round_engine.proofs.Numbers.{number_within}
-use Rattle.round_engine.proofs.Reached.{alights_at}
+use Rattle.flex_model.proofs.Extensions.{alights_at}
 use Rattle.round_engine.proofs.Steps.{label_added}
 use Rattle.round_engine.proofs.step.take_in.Goals as goal
 
