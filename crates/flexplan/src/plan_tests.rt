@@ -60,6 +60,26 @@ const ONE_ARRIVAL: Other<'static> = (
      F1,1,Z,08:00:00,10:00:00,2,1,B,\nF1,2,Z,08:00:00,08:10:00,1,2,,B\n",
 );
 
+const BOOKED_UP_TO_EACH: &str = "query q1 4\n\
+    journey 2025-06-04T08:00:00Z 2025-06-04T08:10:00Z 0\n\
+    ride F1 20250604 1 2 P M 2025-06-04T08:00:00Z 2025-06-04T08:10:00Z\n\
+    journey 2025-06-04T08:01:00Z 2025-06-04T08:11:00Z 0\n\
+    ride F1 20250604 1 2 P M 2025-06-04T08:01:00Z 2025-06-04T08:11:00Z\n\
+    journey 2025-06-04T08:02:00Z 2025-06-04T08:12:00Z 0\n\
+    ride F1 20250604 1 2 P M 2025-06-04T08:02:00Z 2025-06-04T08:12:00Z\n\
+    journey 2025-06-04T08:03:00Z 2025-06-04T08:13:00Z 0\n\
+    ride F1 20250604 1 2 P M 2025-06-04T08:03:00Z 2025-06-04T08:13:00Z\n";
+
+const BOOKED_HALF_AN_HOUR_BEFORE: &str = "query q1 4\n\
+    journey 2025-06-04T07:30:00Z 2025-06-04T08:10:00Z 0\n\
+    ride F1 20250604 1 2 P M 2025-06-04T08:00:00Z 2025-06-04T08:10:00Z\n\
+    journey 2025-06-04T07:31:00Z 2025-06-04T08:11:00Z 0\n\
+    ride F1 20250604 1 2 P M 2025-06-04T08:01:00Z 2025-06-04T08:11:00Z\n\
+    journey 2025-06-04T07:32:00Z 2025-06-04T08:12:00Z 0\n\
+    ride F1 20250604 1 2 P M 2025-06-04T08:02:00Z 2025-06-04T08:12:00Z\n\
+    journey 2025-06-04T07:33:00Z 2025-06-04T08:13:00Z 0\n\
+    ride F1 20250604 1 2 P M 2025-06-04T08:03:00Z 2025-06-04T08:13:00Z\n";
+
 const NONE: &str = "query q1 0\n";
 
 // A query of these fields.
@@ -144,6 +164,118 @@ fn rides_in_a_zone_are_booked_in_time(rt: HostRuntime) -> Result<(), Fail> {
     // One second more than there is.
     let longer = ("t/direct.txt", "from_id,to_id,seconds\nP,M,601\n");
     assert_planned(&rt, alloc, &[ONE_ARRIVAL, longer], NONE)
+}
+
+// Asserts what `plan` prints over the files, with this query file.
+fn assert_asked(
+    rt: &impl Abort,
+    alloc: Global,
+    files: &mut MemFiles,
+    asked: &str,
+    text: &str,
+) -> Result<(), Fail> {
+    files.add("q", asked.as_bytes())?;
+    let ended = ran(alloc, &PLAN, files, MemSink::new(alloc));
+    assert_eq!(rt; ended.out.bytes(), text.as_bytes());
+    assert_eq!(rt; ended.status, Status::Done);
+    Ok(())
+}
+
+// The files with this rule, dates of services if there are some, and the last pickup.
+fn files_booked(alloc: Global, rule: &str, dates: &str, last: &str) -> Result<MemFiles, Fail> {
+    let mut files = files_of(alloc, &[], "")?;
+    let rows = format!(in alloc;
+        "trip_id,stop_sequence,location_id,start_pickup_drop_off_window,end_pickup_drop_off_window,pickup_type,drop_off_type,pickup_booking_rule_id,drop_off_booking_rule_id\n\
+         F1,1,Z,08:00:00,{last},2,1,B,\nF1,2,Z,08:00:00,10:00:00,1,2,,B\n"
+    )?;
+    files.add("a/stop_times.txt", rows.as_str().as_bytes())?;
+    files.add("a/booking_rules.txt", rule.as_bytes())?;
+    if !dates.is_empty() {
+        files.add("a/calendar_dates.txt", dates.as_bytes())?;
+    }
+    Ok(files)
+}
+
+#[test]
+fn each_rule_has_its_last_moment(rt: HostRuntime) -> Result<(), Fail> {
+    let alloc = rt.alloc();
+    for (rule, last, fields, text) in [
+        // Up to the departure.
+        (
+            "booking_rule_id,booking_type\nB,0\n",
+            "08:03:00",
+            "P,M,2025-06-04T07:30:00Z,2025-06-03T12:00:00Z,0,240",
+            BOOKED_UP_TO_EACH,
+        ),
+        // Up to noon of the day, and so up to the departure.
+        (
+            "booking_rule_id,booking_type,prior_notice_last_day,prior_notice_last_time\nB,2,0,12:00:00\n",
+            "08:03:00",
+            "P,M,2025-06-04T07:30:00Z,2025-06-03T12:00:00Z,0,240",
+            BOOKED_UP_TO_EACH,
+        ),
+        // Up to half an hour before.
+        (
+            "booking_rule_id,booking_type,prior_notice_duration_min\nB,1,30\n",
+            "10:00:00",
+            "P,M,2025-06-04T07:30:00Z,2025-06-04T09:20:00Z,0,240",
+            "query q1 1\njourney 2025-06-04T09:20:00Z 2025-06-04T10:00:00Z 0\n\
+             ride F1 20250604 1 2 P M 2025-06-04T09:50:00Z 2025-06-04T10:00:00Z\n",
+        ),
+        (
+            "booking_rule_id,booking_type,prior_notice_duration_min\nB,1,30\n",
+            "10:00:00",
+            "P,M,2025-06-04T07:30:00Z,2025-06-04T09:20:01Z,0,240",
+            NONE,
+        ),
+        // It opens an hour before, which is later than now.
+        (
+            "booking_rule_id,booking_type,prior_notice_duration_min,prior_notice_duration_max\nB,1,30,60\n",
+            "08:03:00",
+            "P,M,2025-06-04T07:30:00Z,2025-06-04T05:00:00Z,0,240",
+            BOOKED_HALF_AN_HOUR_BEFORE,
+        ),
+        // It opens after it closes.
+        (
+            "booking_rule_id,booking_type,prior_notice_duration_min,prior_notice_duration_max\nB,1,30,20\n",
+            "08:03:00",
+            "P,M,2025-06-04T07:30:00Z,2025-06-04T05:00:00Z,0,240",
+            NONE,
+        ),
+    ] {
+        let mut files = files_booked(alloc, rule, "", last)?;
+        let asked = query(alloc, fields)?;
+        assert_asked(&rt, alloc, &mut files, asked.as_str(), text)?;
+    }
+    Ok(())
+}
+
+// Days back are counted on a service of the rule's own.
+#[test]
+fn a_rule_may_count_the_days_of_a_service(rt: HostRuntime) -> Result<(), Fail> {
+    let alloc = rt.alloc();
+    for (rule, dates, fields, text) in [
+        // Two days back of service W, which doesn't run on Friday, 6 June, nor at the weekend.
+        (
+            "booking_rule_id,booking_type,prior_notice_last_day,prior_notice_last_time,prior_notice_service_id\nB,2,2,17:00:00,W\n",
+            "service_id,date,exception_type\nW,20250606,2\n",
+            "P,M,2025-06-09T07:30:00Z,2025-06-02T12:00:00Z,0,240",
+            "query q1 1\njourney 2025-06-04T17:00:00Z 2025-06-09T08:10:00Z 0\n\
+             ride F1 20250609 1 2 P M 2025-06-09T08:00:00Z 2025-06-09T08:10:00Z\n",
+        ),
+        // There is no day before of service V.
+        (
+            "booking_rule_id,booking_type,prior_notice_last_day,prior_notice_last_time,prior_notice_service_id\nB,2,1,17:00:00,V\n",
+            "service_id,date,exception_type\nV,20250604,1\n",
+            "P,M,2025-06-04T07:30:00Z,2025-06-03T12:00:00Z,0,240",
+            NONE,
+        ),
+    ] {
+        let mut files = files_booked(alloc, rule, dates, "10:00:00")?;
+        let asked = query(alloc, fields)?;
+        assert_asked(&rt, alloc, &mut files, asked.as_str(), text)?;
+    }
+    Ok(())
 }
 
 // The clocks of New York go forward on 2025-03-09 and back on 2025-11-02.
@@ -238,6 +370,70 @@ const BOTH: &str = "query q1 2\njourney 2025-06-03T17:00:00Z 2025-06-04T09:00:00
     journey never 2025-06-04T09:00:00Z 1\n\
     ride X1 20250604 1 2 M N 2025-06-04T08:00:00Z 2025-06-04T08:20:00Z\n\
     ride X2 20250604 1 2 O Q 2025-06-04T08:25:00Z 2025-06-04T08:40:00Z\n";
+
+// The files of the change.
+fn changed_files(alloc: Global) -> Result<MemFiles, Fail> {
+    let mut files = files_of(alloc, &CHANGES, "")?;
+    let asked = query(alloc, HOUR)?;
+    files.add("q", asked.as_str().as_bytes())?;
+    Ok(files)
+}
+
+#[test]
+fn one_changes_between_buses_in_time(rt: HostRuntime) -> Result<(), Fail> {
+    let alloc = rt.alloc();
+    for (fields, changes, text) in [
+        (HOUR, "N,O,2,300", BOTH),
+        // Neither arrives within 59 minutes.
+        (
+            "M,D,2025-06-04T08:00:00Z,2025-06-03T12:00:00Z,1,59",
+            "N,O,2,300",
+            NONE,
+        ),
+        // A change that takes no time that is told takes none.
+        (HOUR, "N,O,2,", BOTH),
+    ] {
+        let mut files = changed_files(alloc)?;
+        let changes = format!(in alloc;
+            "from_stop_id,to_stop_id,transfer_type,min_transfer_time\n{changes}\n"
+        )?;
+        files.add("a/transfers.txt", changes.as_str().as_bytes())?;
+        let asked = query(alloc, fields)?;
+        assert_asked(&rt, alloc, &mut files, asked.as_str(), text)?;
+    }
+    Ok(())
+}
+
+// A query file that asks for walking.
+const WALKING: &str = "query_id,origin,destination,depart,now,transfers,horizon,walking\n\
+    q1,M,D,2025-06-04T08:00:00Z,2025-06-03T12:00:00Z,1,60,1\n";
+
+#[test]
+fn walking_counts_where_it_is_asked_for(rt: HostRuntime) -> Result<(), Fail> {
+    let alloc = rt.alloc();
+    let asked = query(alloc, HOUR)?;
+    let on_call = "ride F1 20250604 1 2 M D 2025-06-04T08:00:00Z 2025-06-04T09:00:00Z\n";
+    let first = "ride X1 20250604 1 2 M N 2025-06-04T08:00:00Z 2025-06-04T08:20:00Z\n";
+    let second = "ride X2 20250604 1 2 O Q 2025-06-04T08:25:00Z 2025-06-04T08:40:00Z\n";
+    let longer = format!(in alloc;
+        "query q1 2 walking\njourney 2025-06-03T17:00:00Z 2025-06-04T09:00:00Z 0 0\n{on_call}\
+         journey never 2025-06-04T09:00:00Z 1 1500\n{first}{second}"
+    )?;
+    assert_asked(&rt, alloc, &mut changed_files(alloc)?, WALKING, longer.as_str())?;
+    // One may also walk from N.
+    let mut files = changed_files(alloc)?;
+    files.add(
+        "t/walks.txt",
+        b"from_id,to_id,seconds\nQ,D,1200\nN,D,600\n",
+    )?;
+    let both = format!(in alloc;
+        "query q1 2 walking\njourney never 2025-06-04T08:30:00Z 0 600\n{first}\
+         journey 2025-06-03T17:00:00Z 2025-06-04T09:00:00Z 0 0\n{on_call}"
+    )?;
+    assert_asked(&rt, alloc, &mut files, WALKING, both.as_str())?;
+    let one = format!(in alloc; "query q1 1\njourney never 2025-06-04T08:30:00Z 0\n{first}")?;
+    assert_asked(&rt, alloc, &mut files, asked.as_str(), one.as_str())
+}
 
 // Nine stops, and between each two of them thirty trips, every one of which meets each of those to the next stop.
 fn legs(alloc: Global) -> Result<(String, String, String), Fail> {
@@ -426,13 +622,6 @@ fn each_fault_of_a_feed_is_told(rt: HostRuntime) -> Result<(), Fail> {
         );
     }
     Ok(())
-}
-
-// The files of the change, and its query.
-fn changed_files(alloc: Global) -> Result<MemFiles, Fail> {
-    let [a, b, c, d, e, f, g] = CHANGES;
-    let asked = query(alloc, HOUR)?;
-    files_of(alloc, &[a, b, c, d, e, f, g, ("q", asked.as_str())], "")
 }
 
 #[test]
