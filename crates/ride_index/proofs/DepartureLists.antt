@@ -1,14 +1,13 @@
 -- Lists of departures as they grow, record by record and trip by trip.
 use Rattle.std.proofs.Common.{◌≡◌, ◌↔◌, inl, inr, ℕ, ◌+◌, ◌<◌, ◌≤◌, List, Some, Contains, length, slice_get, sym, subst, arith}
 use Rattle.std.proofs.lemmas.Bool.{cases_order}
-use Rattle.std.specs.Prelude.{IsPermutation}
-use Rattle.std.proofs.lemmas.List.Sorted.{Contains-permutation, IsPermutation-sym}
 use Rattle.std.proofs.lemmas.Option.{slice_get_within}
 use Rattle.flex_model.specs.declared.feed.Feed.{Feed}
 use Rattle.flex_model.specs.declared.trip.Row.{Row}
 use Rattle.flex_model.specs.declared.trip.Trip.{Trip}
 use Rattle.flex_model.proofs.Found.{slice_get_unique}
 use Rattle.ride_index.specs.Departures.{HasDepartures, IsAmong, IsBoardedAt, IsDeparture, RunsSo}
+use Rattle.ride_index.specs.NumberLists.{HasSameDepartures}
 use Rattle.ride_index.proofs.RideLists.{Gained}
 use Rattle.ride_index.specs.declared.departure.Departure.{Departure}
 use Rattle.ride_index.specs.declared.departure.DepartureKind.{DepartureKind}
@@ -105,8 +104,5 @@ all_trips feed kind number xs size so_far x = (
 )
 
 -- the same departures in another order
-pub moved_departures : (feed : Feed) (kind : DepartureKind) (xs ys : List Departure) → IsPermutation xs ys → HasDepartures feed kind xs → HasDepartures feed kind ys
-moved_departures feed kind xs ys moved has x = (
-  λ c. (has x).0 (Contains-permutation ys xs x (IsPermutation-sym xs ys moved) c),
-  λ d. Contains-permutation xs ys x moved ((has x).1 d),
-)
+pub same_departures : (feed : Feed) (kind : DepartureKind) (xs ys : List Departure) → HasSameDepartures xs ys → HasDepartures feed kind xs → HasDepartures feed kind ys
+same_departures feed kind xs ys same has x = (λ c. (has x).0 ((same x).0 c), λ d. (same x).1 ((has x).1 d))

@@ -8,6 +8,7 @@ pub mod WindowOffers
 pub mod BoardingOffers
 pub mod DepartureLists
 pub mod DepartureOrder
+pub mod NumberLists
 pub mod FromPlace
 pub mod LegRuns
 pub mod OfferLists

@@ -1,12 +1,13 @@
 // The departures of a feed in order, and those of a stop between two times.
 
-ghost use Rattle.std.specs.Prelude.{◌≡◌, ◌↔◌, ◌≤◌, Contains, IfOk, IsPermutation, false, length, true};
+ghost use Rattle.std.specs.Prelude.{◌≡◌, ◌↔◌, ◌≤◌, Contains, IfOk, false, length, true};
 ghost use Rattle.std.specs.List.Sorted.{IsPartitionPoint};
 ghost use Rattle.flex_model.specs.SoundFeed.{IsSoundFeed};
 ghost use Rattle.ride_index.specs.Departures.{AreInOrder, HasDepartures, IsWithin, comes_before};
 
 use crate::departure::{Departure, DepartureKind};
 use crate::listing::all_departures;
+use crate::number_lists::in_order;
 use flex_model::{Feed, Listed, NoMemory};
 use std::alloc::Global;
 use std::marker::Model;
@@ -28,16 +29,6 @@ impl Model for DepartureList {
     ghost view = { λ it. it.departures };
 
     ghost invariant = { λ it. AreInOrder it.departures };
-}
-
-// The departures in order.
-fn in_order(departures: Vec<Departure>) -> Result<Listed<Departure>, NoMemory>
-    ensures moved { IfOk result (IsPermutation departures.items) }
-    ensures sorted { IfOk result AreInOrder }
-{
-    let mut departures = departures;
-    departures.sort_by_key(|departure| (departure.named, departure.departs))?;
-    Ok(Listed::from_vec(departures))
 }
 
 // Whether the departure is from a lesser stop, or from this one and before the time.
@@ -78,7 +69,8 @@ impl DepartureList {
         requires { IsSoundFeed feed.now }
         ensures { IfOk result (HasDepartures feed.now kind) }
     {
-        let departures = in_order(all_departures(alloc, feed, kind)?)?;
+        let found = all_departures(alloc, feed, kind)?;
+        let departures = in_order(alloc, found.as_slice())?;
         Ok(DepartureList { departures })
     }
 

@@ -9,6 +9,7 @@ mod departures;
 mod index;
 mod legs;
 mod listing;
+mod number_lists;
 mod offered_run;
 mod offers;
 mod place_offers;
