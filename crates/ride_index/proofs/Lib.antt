@@ -6,6 +6,7 @@ pub mod StartedRides
 pub mod StopRides
 pub mod WindowOffers
 pub mod BoardingOffers
+pub mod DayOffers
 pub mod DepartureLists
 pub mod DepartureOrder
 pub mod FromPlace

@@ -5,7 +5,7 @@ ghost use Rattle.flex_model.specs.Run.{IsInRuns};
 ghost use Rattle.booking_rules.specs.Departures.{LeavesInRange, nth_departure, ride_at};
 ghost use Rattle.booking_rules.specs.Openings.{IsInRange};
 ghost use Rattle.flex_trips.specs.Windows.{HasWindowRow};
-ghost use Rattle.ride_index.specs.Legs.{IsInTime, IsKeptRun, IsLegOf, IsLegRide, arrival_then};
+ghost use Rattle.ride_index.specs.Legs.{IsInTime, IsKeptRun, IsLegOf, IsLegRide, RunsThen, arrival_then};
 ghost use Rattle.ride_index.specs.OfferedRuns.{AreOffersOf, IsSoundWanted};
 
 use crate::offered_run::OfferedRun;
@@ -13,7 +13,7 @@ use crate::offers::deadline_of;
 use crate::wanted::Wanted;
 use booking_rules::narrow;
 use flex_model::{Arrives, Moment, Ride, Run};
-use flex_trips::flex_run;
+use flex_trips::running_flex_run;
 
 // How many moments a minute apart there are from the one moment to the other.
 fn minutes_to(first: Moment, last: Moment) -> u32
@@ -112,14 +112,15 @@ fn offer_of_kept(wanted: &Wanted<'_>, leg: &Ride, kept: &Run) -> Option<OfferedR
     })
 }
 
-// The offer of the rides of the leg, of which one record has a window.
+// The offer of the rides of the leg, of which one record has a window and whose trip runs on its day.
 pub(crate) fn offer_of_leg(wanted: &Wanted<'_>, leg: &Ride) -> Option<OfferedRun>
     requires wanted { IsSoundWanted wanted.now }
     requires leg { IsLegOf wanted.now leg.now }
     requires rows { HasWindowRow wanted.now.feed.now leg.now.trip leg.now.from_row leg.now.to_row }
+    requires runs { RunsThen wanted.now leg.now.trip leg.now.day }
     ensures { AreOffersOf (IsLegRide wanted.now leg.now) (option_to_list result) }
 {
-    let Some(run) = flex_run(
+    let Some(run) = running_flex_run(
         wanted.feed,
         wanted.times,
         wanted.days,
