@@ -146,7 +146,8 @@ fn add_zone_offers(
 /// Puts the runs that are offered from the place into the list, in place of what it held: rides from
 /// the place alone that leave at the moment or later, arrive by the limit, can be booked when asked,
 /// and alight at a stop or at the destination, each with its deadline. For each such ride one of
-/// them alights at the same place, can be booked no less late and arrives no later.
+/// them alights at the same place, can be booked no less late, leaves no earlier and arrives no
+/// later. So one list serves each later moment at the place too, by its rides from then on.
 pub fn offers_from(
     alloc: Global,
     index: &RideIndex,
