@@ -11,5 +11,6 @@ pub mod DepartureLists
 pub mod DepartureOrder
 pub mod FromPlace
 pub mod LegRuns
+pub mod MemberLists
 pub mod OfferLists
 pub mod RideLists

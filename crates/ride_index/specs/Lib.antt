@@ -2,5 +2,6 @@ pub mod ActiveDays
 pub mod Departures
 pub mod Index
 pub mod Legs
+pub mod Members
 pub mod OfferedRuns
 pub mod TimedRides
