@@ -1,5 +1,5 @@
 -- Records with windows, and the rides from or to them.
-use Rattle.std.specs.Prelude.{◌≡◌, ◌≢◌, ℕ, ◌+◌, ◌*◌, ◌<◌, ◌≤◌, ℤ, pos, ◌+ℤ◌, false, Option, Some, None, slice_get}
+use Rattle.std.specs.Prelude.{◌≡◌, ◌≢◌, ℕ, ◌+◌, ◌*◌, ◌<◌, ◌≤◌, ℤ, pos, ◌+ℤ◌, Option, Some, None, slice_get}
 use Rattle.flex_model.specs.declared.feed.Feed.{Feed}
 use Rattle.flex_model.specs.declared.moment.DayTable.{DayTable}
 use Rattle.flex_model.specs.declared.place.Place.{Place}
@@ -15,7 +15,6 @@ use Rattle.flex_model.specs.declared.trip.Way.TheVariants.{No}
 use Rattle.flex_model.specs.Place.{Serves}
 use Rattle.flex_model.specs.Ride.{Arrives, HasTimes, Leaves}
 use Rattle.flex_trips.specs.declared.departures.Departures.{Departures}
-use Rattle.service_days.specs.Running.{IsRunning}
 
 -- the feed has this trip, and the trip has these two records, of which at least one has a window
 pub record HasWindowRow (feed : Feed) (t from to : ℕ) : Type 0 where
@@ -26,12 +25,6 @@ pub record HasWindowRow (feed : Feed) (t from to : ℕ) : Type 0 where
   pub alighting : Row
   pub at_alighting : slice_get trip.rows to ≡ Some alighting
   pub window : HasTimes boarding.timing × HasTimes alighting.timing → ⊥
-
--- the day is a travel day on which the trip's service runs, and frequencies.txt doesn't name the
--- trip
-pub record MayRun (feed : Feed) (days : DayTable) (trip : Trip) (day : ℤ) : Type 0 where
-  pub running : IsRunning feed days trip day
-  pub no_starts : trip.frequent ≡ false
 
 -- one may board at the one record and place, and alight at the other
 pub record MayRide (feed : Feed) (times : Times) (boarding alighting : Row)

@@ -5,4 +5,4 @@ mod departures;
 mod run;
 mod timing;
 
-pub use run::flex_run;
+pub use run::{flex_run, running_flex_run};

@@ -1,8 +1,13 @@
 -- The rides from a place, by what the records where they board name.
-use Rattle.std.proofs.Common.{◌≡◌, ◌↔◌, ◌⊎◌, inl, inr, ℕ, ◌+◌, ◌<◌, false, Some, List, [], ◌++◌, All, Contains, length, slice_get, refl, sym, ◌∙◌, ap, subst, arith}
+use Rattle.std.proofs.Common.{◌≡◌, ◌↔◌, ◌⊎◌, inl, inr, ℕ, ◌+◌, ◌<◌, false, IsTrue, Some, List, [], ◌∷◌, ◌++◌, All, Contains, get_or, length, slice_get, take, refl, sym, ◌∙◌, ap, subst, arith}
 use Rattle.std.proofs.lemmas.Bool.{cases_order}
+use Rattle.std.proofs.lemmas.List.{take_more}
+use Rattle.std.proofs.lemmas.List.Elements.{Contains-append_left, Contains-push, Contains-push_cases}
+use Rattle.std.proofs.lemmas.Option.{slice_get_within}
 use Rattle.flex_model.specs.declared.feed.Feed.{Feed}
 use Rattle.flex_model.specs.declared.moment.Deadline.{Deadline}
+use Rattle.flex_model.specs.declared.place.Group.{Group}
+use Rattle.flex_model.specs.declared.place.Place.{Place}
 use Rattle.flex_model.specs.declared.place.Place.TheVariants as place
 use Rattle.flex_model.specs.declared.ride.Ride.{Ride}
 use Rattle.flex_model.specs.declared.trip.Row.{Row}
@@ -11,9 +16,10 @@ use Rattle.flex_model.specs.declared.trip.Spot.TheVariants as spot
 use Rattle.flex_model.specs.declared.trip.Timing.{Timing}
 use Rattle.flex_model.specs.declared.trip.Timing.TheVariants as timing
 use Rattle.flex_model.specs.declared.trip.Trip.{Trip}
-use Rattle.flex_model.specs.Place.{Serves}
+use Rattle.flex_model.specs.Place.{IsMember, Serves}
 use Rattle.flex_model.specs.Ride.{HasTimes, StartsRightly}
-use Rattle.flex_model.specs.SoundFeed.{IsSoundFeed, IsSoundRow, IsSoundSpot, IsSoundTiming, IsSoundTrip}
+use Rattle.flex_model.specs.SoundFeed.{IsSoundFeed, IsSoundRow, IsSoundSpot, IsSoundTiming, IsSoundTrip, IsSoundZone}
+use Rattle.flex_model.specs.Zone.{is_in_zone}
 use Rattle.flex_model.proofs.Found.{All-at, All-from_contains, none_contained, slice_get_unique}
 use Rattle.fixed_trips.specs.Timed.{HasTimedRow}
 use Rattle.fixed_trips.proofs.Legs.{names_stop}
@@ -25,6 +31,8 @@ use Rattle.ride_index.specs.declared.departure.DepartureKind.TheVariants.{AtStar
 use Rattle.ride_index.specs.declared.offered_run.OfferedRun.{OfferedRun}
 use Rattle.ride_index.specs.declared.wanted.Wanted.{Wanted}
 use Rattle.ride_index.specs.Legs.{AreAtRecords, BoardsFrom, BoardsWith, IsTimedOffer, IsWindowRide}
+use Rattle.ride_index.specs.Members.{HasGroupStops, HasMembers, HasZoneStops}
+use Rattle.ride_index.specs.declared.members.Member.{Member}
 use Rattle.ride_index.specs.OfferedRuns.{AreOffersOf, GainsOffersOf, IsReachable, IsSoundWanted, IsWantedRide}
 use Rattle.ride_index.specs.TimedRides.{IsTimedRide}
 use Rattle.ride_index.proofs.OfferLists.{gains_both, gains_same}
@@ -199,19 +207,6 @@ module _ (wanted : Wanted) (sound : IsSoundWanted wanted) where
       gains_same (λ ride deadline. IsWindowRide wanted ride deadline × BoardsWith list z ride) (λ ride deadline. IsWindowRide wanted ride deadline × BoardsFrom wanted.feed.now (spot.Zone z) ride) before after
       (λ x d. (λ h. (h.0, boards_from wanted.feed.now ZoneWindow list z x has h.1), λ h. (h.0, with_zone x d h.0 list z has h.1)))
 
-  pub next_group : (n : ℕ) (before found after : List OfferedRun) → GainsOffersOf (FromGroups n) before found
-      → GainsOffersOf (λ ride deadline. IsWindowRide wanted ride deadline × BoardsFrom wanted.feed.now (spot.Group n) ride) found after → GainsOffersOf (FromGroups (n + 1)) before after
-  next_group n before found after so_far new =
-      gains_both (FromGroups n) (λ ride deadline. IsWindowRide wanted ride deadline × BoardsFrom wanted.feed.now (spot.Group n) ride) (FromGroups (n + 1)) before found after so_far new
-      (λ x d. (
-        λ h. elim h [ inl p ↦ (let lt = p.1.1 in (p.0, (p.1.0, omega (arith, lt), p.1.2))) | inr q ↦ (q.0, (n, omega arith, q.1)) ],
-        λ h. elim (cases_order h.1.0 n) [
-          | inl e ↦ inr (h.0, subst (λ g. BoardsFrom wanted.feed.now (spot.Group g) x) e h.1.2)
-          | inr (inl less) ↦ inl (h.0, (h.1.0, less, h.1.2))
-          | inr (inr more) ↦ absurd (let lt = h.1.1 in omega (arith, lt, more))
-        ],
-      ))
-
   pub next_zone : (n : ℕ) (before found after : List OfferedRun) → GainsOffersOf (FromZones n) before found
       → GainsOffersOf (λ ride deadline. IsWindowRide wanted ride deadline × BoardsFrom wanted.feed.now (spot.Zone n) ride) found after → GainsOffersOf (FromZones (n + 1)) before after
   next_zone n before found after so_far new =
@@ -224,6 +219,75 @@ module _ (wanted : Wanted) (sound : IsSoundWanted wanted) where
           | inr (inr more) ↦ absurd (let lt = h.1.1 in omega (arith, lt, more))
         ],
       ))
+
+  -- ---- the rides from the groups or zones that have the stop
+
+  abbrev pub FromMembers : (ℕ → Spot) → List Member → Ride → Deadline → Type 0
+  FromMembers name members ride deadline = IsWindowRide wanted ride deadline × ((m : Member) × Contains members m × BoardsFrom wanted.feed.now (name m.named) ride)
+
+  pub next_member : (name : ℕ → Spot) (members : List Member) (n : ℕ) (default : Member) (before found after : List OfferedRun) → n < length members → GainsOffersOf (FromMembers name (take n members)) before found
+      → GainsOffersOf (λ ride deadline. IsWindowRide wanted ride deadline × BoardsFrom wanted.feed.now (name (get_or members n default).named) ride) found after
+      → GainsOffersOf (FromMembers name (take (n + 1) members)) before after
+  next_member name members n default before found after lt so_far new =
+      let one = get_or members n default in
+      let more : take (n + 1) members ≡ take n members ++ one ∷ [] = take_more members n default lt in
+      gains_both (FromMembers name (take n members)) (λ ride deadline. IsWindowRide wanted ride deadline × BoardsFrom wanted.feed.now (name one.named) ride) (FromMembers name (take (n + 1) members)) before found after so_far new
+      (λ x d. (
+        λ h. elim h [
+          | inl old ↦ (old.0, (old.1.0, subst (λ xs. Contains xs old.1.0) (sym more) (Contains-append_left (take n members) (one ∷ []) old.1.0 old.1.1), old.1.2))
+          | inr here ↦ (here.0, (one, subst (λ xs. Contains xs one) (sym more) (Contains-push (take n members) one), here.1))
+        ],
+        λ h. elim (Contains-push_cases (take n members) one h.1.0 (subst (λ xs. Contains xs h.1.0) more h.1.1)) [
+          | inl old ↦ inl (h.0, (h.1.0, old, h.1.2))
+          | inr same ↦ inr (h.0, subst (λ m. BoardsFrom wanted.feed.now (name m.named) x) (sym same) h.1.2)
+        ],
+      ))
+
+  -- groups serve stops alone
+  member_stop : (group : Group) (p : Place) → IsMember wanted.feed.now group p → (s : ℕ) × (p ≡ place.Stop s)
+  member_stop group (place.Stop s) h = (s, refl)
+  member_stop group (place.Point q) h = absurd h
+
+  pub grouped_at_stop : (n : ℕ) (ride : Ride) (deadline : Deadline) → FromGroups n ride deadline → (s : ℕ) × (wanted.place ≡ place.Stop s)
+  grouped_at_stop n ride deadline h =
+      let s = served (spot.Group h.1.0) ride deadline h.0.0 h.1.2 in
+      member_stop s.0 wanted.place s.2
+
+  module _ (members slice : List Member) (stop : ℕ) (before after : List OfferedRun) (listed : (m : Member) → Contains slice m ↔ (Contains members m × (m.stop ≡ stop))) (here : wanted.place ≡ place.Stop stop) where
+    pub gains_groups : HasMembers (HasGroupStops wanted.feed.now) members → GainsOffersOf (FromMembers (λ g. spot.Group g) slice) before after → GainsOffersOf (FromGroups (length wanted.feed.now.groups)) before after
+    gains_groups has =
+        gains_same (FromMembers (λ g. spot.Group g) slice) (FromGroups (length wanted.feed.now.groups)) before after
+        (λ x d. (
+          λ h.
+              let m = h.1.0 in
+              let its = ((has m).0 ((listed m).0 h.1.1).0).1 in
+              (h.0, (m.named, slice_get_within wanted.feed.now.groups m.named its.0 its.1, h.1.2)),
+          λ h.
+              let g = h.1.0 in
+              let m : Member = record { stop = stop; named = g } in
+              let s = served (spot.Group g) x d h.0.0 h.1.2 in
+              let in_group = subst (IsMember wanted.feed.now s.0) here s.2 in
+              (h.0, (m, (listed m).1 ((has m).1 (s.0.members, (s.0, s.1, refl), in_group.0), refl), h.1.2)),
+        ))
+
+    pub gains_zones : HasMembers (HasZoneStops wanted.feed.now) members → GainsOffersOf (FromMembers (λ z. spot.Zone z) slice) before after → GainsOffersOf (FromZones (length wanted.feed.now.zones)) before after
+    gains_zones has =
+        gains_same (FromMembers (λ z. spot.Zone z) slice) (FromZones (length wanted.feed.now.zones)) before after
+        (λ x d. (
+          λ h.
+              let m = h.1.0 in
+              let its = ((has m).0 ((listed m).0 h.1.1).0).1 in
+              (h.0, (m.named, slice_get_within wanted.feed.now.zones m.named its.0 its.1, h.1.2)),
+          λ h.
+              let z = h.1.0 in
+              let m : Member = record { stop = stop; named = z } in
+              let s = subst (Serves wanted.feed.now wanted.times.now (spot.Zone z)) here (served (spot.Zone z) x d h.0.0 h.1.2) in
+              let zone = s.0 in
+              let of : IsSoundZone wanted.feed.now zone = All-at (IsSoundZone wanted.feed.now) wanted.feed.now.zones z zone sound.feed.each_zone s.2 in
+              let lies = s.3 in
+              let inside = (of.stops stop).1 (lies.0, lies.1, lies.2, subst (λ q. IsTrue (is_in_zone zone.polygons q)) lies.3 s.4) in
+              (h.0, (m, (listed m).1 ((has m).1 (zone.stops, (zone, s.2, refl), inside), refl), h.1.2)),
+        ))
 
   -- ---- the rides between times
 

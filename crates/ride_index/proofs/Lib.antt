@@ -6,10 +6,12 @@ pub mod StartedRides
 pub mod StopRides
 pub mod WindowOffers
 pub mod BoardingOffers
+pub mod DayOffers
 pub mod DepartureLists
 pub mod DepartureOrder
 pub mod NumberLists
 pub mod FromPlace
 pub mod LegRuns
+pub mod MemberLists
 pub mod OfferLists
 pub mod RideLists

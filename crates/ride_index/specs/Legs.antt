@@ -19,7 +19,8 @@ use Rattle.flex_model.specs.declared.ride.Run.{Run}
 use Rattle.flex_model.specs.Booking.{IsBookable}
 use Rattle.flex_model.specs.Place.{IsStop}
 use Rattle.flex_model.specs.Run.{IsInRun}
-use Rattle.booking_rules.specs.Departures.{HasOneAtMoment, IsCoveredBy, LeavesInRange, ride_at}
+use Rattle.service_days.specs.Running.{IsRunning}
+use Rattle.booking_rules.specs.Departures.{HasOneAtMoment, LeavesInRange, ride_at}
 use Rattle.ride_index.specs.declared.departure.Departure.{Departure}
 use Rattle.ride_index.specs.declared.wanted.Wanted.{Wanted}
 use Rattle.ride_index.specs.OfferedRuns.{IsReachable, IsWantedRide}
@@ -47,7 +48,25 @@ pub record IsLegOf (wanted : Wanted) (leg : Ride) : Type 0 where
   pub boards : leg.board ≡ wanted.place
   pub alights : IsStop leg.alight ⊎ (leg.alight ≡ wanted.destination)
 
--- The run has rides of the leg alone that are wanted, and covers all of them.
+-- the run has a ride that arrives then and leaves no earlier
+abbrev pub HasNoEarlier : Run → ℤ → ℤ → Type 0
+HasNoEarlier run departs arrives =
+    (later : ℤ) × IsInRun run later arrives × (departs ≤ℤ later)
+
+-- The other run has rides of the run alone that leave at this departure or later. For each ride that
+-- arrives no earlier than the one with this departure it has one that arrives then too and leaves no
+-- earlier. It has one ride, where all arrive at one moment.
+pub record AreRidesFrom (run : Run) (from : ℤ) (rest : Run) : Type 0 where
+  pub some : 0 < rest.count
+  pub departs : LeavesInRange rest
+  pub single : HasOneAtMoment rest
+  pub each : (departs arrives : ℤ) → IsInRun rest departs arrives
+      → IsInRun run departs arrives × (from ≤ℤ departs)
+  pub covers : (departs arrives : ℤ) → IsInRun run departs arrives
+      → arrival_then run.arrives from ≤ℤ arrives → HasNoEarlier rest departs arrives
+
+-- The run has rides of the leg alone that are wanted, and for each wanted one a ride that arrives
+-- then and leaves no earlier.
 pub record IsKeptRun (wanted : Wanted) (leg : Ride) (kept : Run) : Type 0 where
   pub some : 0 < kept.count
   pub departs : LeavesInRange kept
@@ -56,31 +75,30 @@ pub record IsKeptRun (wanted : Wanted) (leg : Ride) (kept : Run) : Type 0 where
       → IsReachable wanted (ride_at leg departs arrives)
       × IsBookable wanted.feed.now wanted.days.now (ride_at leg departs arrives) wanted.asked
   pub covers : (ride : Ride) (deadline : Deadline) → IsLegRide wanted leg ride deadline
-      → IsCoveredBy wanted.feed.now wanted.days.now leg kept ride.arrives deadline
-
--- the same leg on another day
-abbrev pub on_day : Ride → ℤ → Ride
-on_day leg day = record leg { day = day }
+      → HasNoEarlier kept ride.departs ride.arrives
 
 -- the same leg to another place
 abbrev pub to_place : Ride → Place → Ride
 to_place leg alight = record leg { alight = alight }
 
--- The ride is wanted, has this deadline, and is one of the leg on some day.
-abbrev pub IsPlacesRide : Wanted → Ride → Ride → Deadline → Type 0
-IsPlacesRide wanted leg ride deadline =
-    IsWantedRide wanted ride deadline × IsOfLeg (on_day leg ride.day) ride
-
--- The ride is wanted, has this deadline, and is one of the leg on some day to some place.
+-- The ride is wanted, has this deadline, and is one of the leg to some place.
 abbrev pub IsRowsRide : Wanted → Ride → Ride → Deadline → Type 0
 IsRowsRide wanted leg ride deadline =
-    IsWantedRide wanted ride deadline × IsOfLeg (to_place (on_day leg ride.day) ride.alight) ride
+    IsWantedRide wanted ride deadline × IsOfLeg (to_place leg ride.alight) ride
 
--- the leg has no start, boards at the place, and one of its records has a window
+-- the trip with this number runs on the day
+abbrev pub RunsThen : Wanted → ℕ → ℤ → Type 0
+RunsThen wanted t day =
+    (trip : Trip) → slice_get wanted.feed.now.trips t ≡ Some trip
+    → IsRunning wanted.feed.now wanted.days.now trip day
+
+-- The leg has no start, boards at the place on a day on which its trip runs, and one of its records
+-- has a window.
 pub record IsRowsLeg (wanted : Wanted) (leg : Ride) : Type 0 where
   pub no_start : leg.start ≡ None
   pub boards : leg.board ≡ wanted.place
   pub rows : HasWindowRow wanted.feed.now leg.trip leg.from_row leg.to_row
+  pub runs : RunsThen wanted leg.trip leg.day
 
 -- the record of the trip names this
 abbrev pub HasSpot : Feed → ℕ → ℕ → Spot → Type 0
@@ -103,6 +121,10 @@ IsWindowRide wanted ride deadline =
 abbrev pub BoardsAt : ℕ → ℕ → Ride → Type 0
 BoardsAt t r ride = (ride.trip ≡ t) × (ride.from_row ≡ r)
 
+-- the ride boards at this record of the trip on the day
+abbrev pub BoardsOn : ℕ → ℕ → ℤ → Ride → Type 0
+BoardsOn t r day ride = BoardsAt t r ride × (ride.day ≡ day)
+
 -- the ride boards with a departure of the list that names this
 pub record BoardsWith (departures : List Departure) (named : ℕ) (ride : Ride) : Type 0 where
   pub departure : Departure
@@ -116,11 +138,11 @@ BoardsWithAny departures ride =
     (departure : Departure) × Contains departures departure
     × BoardsAt departure.trip departure.row ride
 
--- the leg from the departure to this record, to no other place yet
-abbrev pub leg_from : Wanted → Departure → ℕ → Ride
-leg_from wanted departure to_row = record {
+-- the leg from the departure on the day to this record, to no other place yet
+abbrev pub leg_from : Wanted → Departure → ℤ → ℕ → Ride
+leg_from wanted departure day to_row = record {
   trip = departure.trip;
-  day = pos 0;
+  day = day;
   start = None;
   from_row = departure.row;
   to_row = to_row;

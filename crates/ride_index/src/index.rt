@@ -6,6 +6,7 @@ ghost use Rattle.ride_index.specs.Index.{IsIndexOf};
 
 use crate::departure::DepartureKind;
 use crate::departures::DepartureList;
+use crate::members::MemberList;
 use flex_model::{Feed, NoMemory};
 use std::alloc::Global;
 
@@ -24,6 +25,10 @@ pub struct RideIndex {
     pub group_windows: DepartureList,
     /// The same for zones.
     pub zone_windows: DepartureList,
+    /// The stops of groups.
+    pub group_members: MemberList,
+    /// The stops of zones.
+    pub zone_members: MemberList,
 }
 
 impl RideIndex {
@@ -39,6 +44,8 @@ impl RideIndex {
             stop_windows: DepartureList::build(alloc, feed, DepartureKind::StopWindow)?,
             group_windows: DepartureList::build(alloc, feed, DepartureKind::GroupWindow)?,
             zone_windows: DepartureList::build(alloc, feed, DepartureKind::ZoneWindow)?,
+            group_members: MemberList::of_groups(alloc, feed)?,
+            zone_members: MemberList::of_zones(alloc, feed)?,
         })
     }
 }

@@ -5,7 +5,7 @@ ghost use Rattle.flex_model.specs.Run.{IsInRuns};
 ghost use Rattle.booking_rules.specs.Departures.{LeavesInRange, nth_departure, ride_at};
 ghost use Rattle.booking_rules.specs.Openings.{IsInRange};
 ghost use Rattle.flex_trips.specs.Windows.{HasWindowRow};
-ghost use Rattle.ride_index.specs.Legs.{IsInTime, IsKeptRun, IsLegOf, IsLegRide, arrival_then};
+ghost use Rattle.ride_index.specs.Legs.{AreRidesFrom, IsInTime, IsKeptRun, IsLegOf, IsLegRide, RunsThen, arrival_then};
 ghost use Rattle.ride_index.specs.OfferedRuns.{AreOffersOf, IsSoundWanted};
 
 use crate::offered_run::OfferedRun;
@@ -13,7 +13,7 @@ use crate::offers::deadline_of;
 use crate::wanted::Wanted;
 use booking_rules::narrow;
 use flex_model::{Arrives, Moment, Ride, Run};
-use flex_trips::flex_run;
+use flex_trips::running_flex_run;
 
 // How many moments a minute apart there are from the one moment to the other.
 fn minutes_to(first: Moment, last: Moment) -> u32
@@ -75,13 +75,43 @@ fn in_time(run: &Run, limit: Moment) -> Option<Run>
     Some(Run { count, ..*run })
 }
 
+// The departure of the run with this number.
+fn departure_of(run: &Run, number: u32) -> Moment
+    requires { IsInRange (nth_departure run.now number) }
+    ensures { result ≡ nth_departure run.now number }
+{
+    run.first + 60 * i64::from(number)
+}
+
+// The rides of the run that leave at this departure of it or later: all of them or, where all arrive
+// at one moment, the last one, which can be booked the longest.
+fn rides_from(run: &Run, from: Moment) -> Run
+    requires departs { LeavesInRange run.now }
+    requires from { (k : ℕ) × (k < run.now.count) × (from ≡ nth_departure run.now k) }
+    ensures { AreRidesFrom run.now from result }
+{
+    let last = departure_of(run, run.count - 1);
+    match run.arrives {
+        Arrives::After(_) => Run {
+            first: from,
+            count: minutes_to(from, last),
+            arrives: run.arrives,
+        },
+        Arrives::At(_) => Run {
+            first: last,
+            count: 1,
+            arrives: run.arrives,
+        },
+    }
+}
+
 // The ride of the leg at the departure of the run with this number.
 fn ride_then(leg: &Ride, run: &Run, number: u32) -> Ride
     requires { IsInRange (nth_departure run.now number) }
     ensures { result ≡ ride_at leg.now (nth_departure run.now number)
         (arrival_then run.now.arrives (nth_departure run.now number)) }
 {
-    let departs = run.first + 60 * i64::from(number);
+    let departs = departure_of(run, number);
     Ride {
         departs,
         arrives: arrival(run.arrives, departs),
@@ -112,14 +142,16 @@ fn offer_of_kept(wanted: &Wanted<'_>, leg: &Ride, kept: &Run) -> Option<OfferedR
     })
 }
 
-// The offer of the rides of the leg, of which one record has a window.
+// The offer of the rides of the leg, of which one record has a window and whose trip runs on its day.
+// Rides that can be booked no longer than an earlier one are offered too, for who can't leave so early.
 pub(crate) fn offer_of_leg(wanted: &Wanted<'_>, leg: &Ride) -> Option<OfferedRun>
     requires wanted { IsSoundWanted wanted.now }
     requires leg { IsLegOf wanted.now leg.now }
     requires rows { HasWindowRow wanted.now.feed.now leg.now.trip leg.now.from_row leg.now.to_row }
+    requires runs { RunsThen wanted.now leg.now.trip leg.now.day }
     ensures { AreOffersOf (IsLegRide wanted.now leg.now) (option_to_list result) }
 {
-    let Some(run) = flex_run(
+    let Some(run) = running_flex_run(
         wanted.feed,
         wanted.times,
         wanted.days,
@@ -145,5 +177,6 @@ pub(crate) fn offer_of_leg(wanted: &Wanted<'_>, leg: &Ride) -> Option<OfferedRun
     ) else {
         return None;
     };
-    offer_of_kept(wanted, leg, &kept)
+    let offered = rides_from(&run, kept.first);
+    offer_of_kept(wanted, leg, &offered)
 }

@@ -1,13 +1,15 @@
 // The offers from a place.
 
-ghost use Rattle.std.specs.Prelude.{◌<◌, ℕ, OnOk, length};
+ghost use Rattle.std.specs.Prelude.{◌<◌, ℕ, Contains, OnOk, length};
 ghost use Rattle.flex_model.specs.declared.trip.Spot.TheVariants as spot;
 ghost use Rattle.ride_index.specs.Index.{IsIndexOf};
 ghost use Rattle.ride_index.specs.Legs.{BoardsFrom, IsTimedOffer, IsWindowRide};
 ghost use Rattle.ride_index.specs.OfferedRuns.{AreOfferedFrom, GainsOffersOf, IsSoundWanted};
+ghost use Rattle.ride_index.specs.declared.members.Member.{Member};
 
 use crate::boardings::add_offers_at;
 use crate::index::RideIndex;
+use crate::members::Member;
 use crate::offered_run::OfferedRun;
 use crate::offers::add_offers_of_rides;
 use crate::stop_rides::add_timed_rides;
@@ -105,7 +107,27 @@ fn add_offers_of_zone(
     Ok(())
 }
 
-// The same for all groups.
+// The same for these groups.
+fn add_offers_of_groups(
+    index: &RideIndex,
+    wanted: &Wanted<'_>,
+    members: &[Member],
+    into: &mut Vec<OfferedRun>,
+) -> Result<(), NoMemory>
+    requires index { IsIndexOf wanted.now.feed.now index.now }
+    requires wanted { IsSoundWanted wanted.now }
+    ensures { OnOk result (GainsOffersOf (λ ride deadline. IsWindowRide wanted.now ride deadline
+        × ((m : Member) × Contains members.now m
+        × BoardsFrom wanted.now.feed.now (spot.Group m.named) ride))
+        into.old.items into.new.items) }
+{
+    for member in members {
+        add_offers_of_group(index, wanted, member.named, into)?;
+    }
+    Ok(())
+}
+
+// The same for all groups. They serve stops alone, and a stop only those that have it.
 fn add_group_offers(
     index: &RideIndex,
     wanted: &Wanted<'_>,
@@ -118,14 +140,35 @@ fn add_group_offers(
         × BoardsFrom wanted.now.feed.now (spot.Group g) ride))
         into.old.items into.new.items) }
 {
-    for group in 0..wanted.feed.groups.len() {
-        add_offers_of_group(index, wanted, group as u32, into)?;
+    let Place::Stop(stop) = wanted.place else {
+        return Ok(());
+    };
+    add_offers_of_groups(index, wanted, index.group_members.at(stop), into)?;
+    Ok(())
+}
+
+// The same for these zones.
+fn add_offers_of_zones(
+    index: &RideIndex,
+    wanted: &Wanted<'_>,
+    members: &[Member],
+    into: &mut Vec<OfferedRun>,
+) -> Result<(), NoMemory>
+    requires index { IsIndexOf wanted.now.feed.now index.now }
+    requires wanted { IsSoundWanted wanted.now }
+    ensures { OnOk result (GainsOffersOf (λ ride deadline. IsWindowRide wanted.now ride deadline
+        × ((m : Member) × Contains members.now m
+        × BoardsFrom wanted.now.feed.now (spot.Zone m.named) ride))
+        into.old.items into.new.items) }
+{
+    for member in members {
+        add_offers_of_zone(index, wanted, member.named, into)?;
     }
     Ok(())
 }
 
-// The same for all zones.
-fn add_zone_offers(
+// The same for all zones, each of which is tried.
+fn add_offers_of_each_zone(
     index: &RideIndex,
     wanted: &Wanted<'_>,
     into: &mut Vec<OfferedRun>,
@@ -143,10 +186,32 @@ fn add_zone_offers(
     Ok(())
 }
 
+// The same for all zones: those that have the stop, or where the place is a point any of them.
+fn add_zone_offers(
+    index: &RideIndex,
+    wanted: &Wanted<'_>,
+    into: &mut Vec<OfferedRun>,
+) -> Result<(), NoMemory>
+    requires index { IsIndexOf wanted.now.feed.now index.now }
+    requires wanted { IsSoundWanted wanted.now }
+    ensures { OnOk result (GainsOffersOf (λ ride deadline. IsWindowRide wanted.now ride deadline
+        × ((z : ℕ) × (z < length wanted.now.feed.now.zones)
+        × BoardsFrom wanted.now.feed.now (spot.Zone z) ride))
+        into.old.items into.new.items) }
+{
+    let Place::Stop(stop) = wanted.place else {
+        add_offers_of_each_zone(index, wanted, into)?;
+        return Ok(());
+    };
+    add_offers_of_zones(index, wanted, index.zone_members.at(stop), into)?;
+    Ok(())
+}
+
 /// Puts the runs that are offered from the place into the list, in place of what it held: rides from
 /// the place alone that leave at the moment or later, arrive by the limit, can be booked when asked,
 /// and alight at a stop or at the destination, each with its deadline. For each such ride one of
-/// them alights at the same place, can be booked no less late and arrives no later.
+/// them alights at the same place, can be booked no less late, leaves no earlier and arrives no
+/// later. So one list serves each later moment at the place too, by its rides from then on.
 pub fn offers_from(
     alloc: Global,
     index: &RideIndex,

@@ -1,18 +1,17 @@
--- Group by group.
-use Rattle.std.proofs.Common.{◌≡◌, length, subst, arith}
-use Rattle.ride_index.proofs.FromPlace.{FromGroups, next_group}
+-- The groups that have the stop.
+use Rattle.std.proofs.Common.{length}
+use Rattle.ride_index.proofs.FromPlace.{FromGroups, gains_groups, grouped_at_stop}
 use Rattle.ride_index.proofs.OfferLists.{gains_none}
-use Rattle.ride_index.specs.OfferedRuns.{GainsOffersOf}
 use Rattle.ride_index.proofs.place_offers.add_group_offers.Goals as goal
 
-pub loop-group-init : goal.loop-group-init
-loop-group-init c = gains_none (FromGroups c.args.wanted.now c.requires.wanted 0) c.args.into.now.items (λ ride deadline h. let lt = h.1.1 in omega (arith, lt))
-
-pub loop-group-preserved : goal.loop-group-preserved
-loop-group-preserved c =
-    next_group c.args.wanted.now c.requires.wanted c.loop-group.group c.args.into.now.items c.loop-group.into.items c.add_offers_of_group.new.into.items c.loop-group.invariant c.in_ok-add_offers_of_group.ensures
+pub returns-in_default : goal.returns-in_default
+returns-in_default c =
+    let w = c.args.wanted.now in
+    let n = length w.feed.now.groups in
+    gains_none (FromGroups w c.requires.wanted n) c.args.into.now.items
+    (λ ride deadline h. (let at = grouped_at_stop w c.requires.wanted n ride deadline h in c.in_default.not-Stop at.0 at.1))
 
 pub returns : goal.returns
 returns c =
-    let count : c.loop-group.group ≡ length c.args.wanted.now.feed.now.groups = omega (arith, c.loop-group-test.false, c.loop-group.auto.group-end, c.len-group-end.ensures) in
-    subst (λ n. GainsOffersOf (FromGroups c.args.wanted.now c.requires.wanted n) c.args.into.now.items c.loop-group.into.items) count c.loop-group.invariant
+    gains_groups c.args.wanted.now c.requires.wanted c.args.index.now.group_members c.at.result.now c.in-Stop.stop c.args.into.now.items c.add_offers_of_groups.new.into.items
+    c.at.ensures c.in-Stop.is c.requires.index.group_members c.in_ok-add_offers_of_groups.ensures

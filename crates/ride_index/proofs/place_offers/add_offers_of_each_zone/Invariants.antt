@@ -2,7 +2,7 @@ use Rattle.std.proofs.Common.{ℕ, ◌<◌}
 use Rattle.flex_model.specs.declared.trip.Spot.TheVariants as spot
 use Rattle.ride_index.specs.Legs.{BoardsFrom, IsWindowRide}
 use Rattle.ride_index.specs.OfferedRuns.{GainsOffersOf}
-use Rattle.ride_index.proofs.place_offers.add_zone_offers.Given as goal
+use Rattle.ride_index.proofs.place_offers.add_offers_of_each_zone.Given as goal
 
 abbrev pub invariant-loop-zone : goal.invariant-loop-zone
 invariant-loop-zone l =
