@@ -12,3 +12,5 @@ pub mod FromPlace
 pub mod LegRuns
 pub mod OfferLists
 pub mod RideLists
+pub mod NeededRides
+pub mod NeededOffers
