@@ -301,20 +301,8 @@ module _ (wanted : Wanted) (sound : IsSoundWanted wanted) where
   pub timed_reachable : (stop : ℕ) (ride : Ride) → wanted.place ≡ place.Stop stop → IsTimedRide wanted.feed.now wanted.times.now wanted.days.now stop wanted.earliest wanted.limit ride → IsReachable wanted ride
   timed_reachable stop ride here t = record { permitted = t.permitted; boards = t.at_stop ∙ sym here; leaves = t.leaves; arrives = t.arrives }
 
-  pub gains_timed : (stop : ℕ) (rides : List Ride) (before after : List OfferedRun) → wanted.place ≡ place.Stop stop
-      → ((ride : Ride) → Contains rides ride ↔ IsTimedRide wanted.feed.now wanted.times.now wanted.days.now stop wanted.earliest wanted.limit ride)
-      → GainsOffersOf (λ ride deadline. IsWantedRide wanted ride deadline × Contains rides ride) before after → GainsOffersOf (IsTimedOffer wanted) before after
-  gains_timed stop rides before after here all =
-      gains_same (λ ride deadline. IsWantedRide wanted ride deadline × Contains rides ride) (IsTimedOffer wanted) before after
-      (λ x d. (
-        λ h. (let t = (all x).0 h.1 in (h.0, t.boards, t.alights)),
-        λ h. (h.0, (all x).1 (record { permitted = h.0.permitted; at_stop = h.0.boards ∙ here; boards = h.1; alights = h.2; leaves = h.0.leaves; arrives = h.0.arrives })),
-      ))
-
-  -- ---- all of them
-
   -- both records have times, or one has a window
-  by_timings : (ride : Ride) (deadline : Deadline) (w : IsWantedRide wanted ride deadline) → IsTimedOffer wanted ride deadline ⊎ IsWindowRide wanted ride deadline
+  pub by_timings : (ride : Ride) (deadline : Deadline) (w : IsWantedRide wanted ride deadline) → IsTimedOffer wanted ride deadline ⊎ IsWindowRide wanted ride deadline
   by_timings ride deadline w = by w.permitted.boarding.timing w.permitted.alighting.timing refl refl
     where
       timed : (t r : ℕ) (trip : Trip) (row : Row) (a b : ℕ) → slice_get wanted.feed.now.trips t ≡ Some trip → slice_get trip.rows r ≡ Some row → row.timing ≡ timing.Times a b → HasTimedRow wanted.feed.now t r
@@ -336,38 +324,3 @@ module _ (wanted : Wanted) (sound : IsSoundWanted wanted) where
           inl (w, timed ride.trip ride.from_row w.permitted.trip w.permitted.boarding x y w.permitted.of_trip w.permitted.at_boarding e, timed ride.trip ride.to_row w.permitted.trip w.permitted.alighting z v w.permitted.of_trip w.permitted.at_alighting f)
       by (timing.Window x y) b e f = inr (w, window (λ both. subst HasTimes e both.0))
       by (timing.Times x y) (timing.Window z v) e f = inr (w, window (λ both. subst HasTimes f both.1))
-
-  pub all_offers : (before one two three after : List OfferedRun) → before ≡ [] → GainsOffersOf (IsTimedOffer wanted) before one → GainsOffersOf FromStops one two
-      → GainsOffersOf (FromGroups (length wanted.feed.now.groups)) two three → GainsOffersOf (FromZones (length wanted.feed.now.zones)) three after → AreOffersOf (IsWantedRide wanted) after
-  all_offers before one two three after empty timed stops groups zones =
-      let first = gains_both (IsTimedOffer wanted) FromStops (λ r d. IsTimedOffer wanted r d ⊎ FromStops r d) before one two timed stops (λ r d. (λ h. h, λ h. h)) in
-      let second = gains_both (λ r d. IsTimedOffer wanted r d ⊎ FromStops r d) (FromGroups (length wanted.feed.now.groups)) (λ r d. (IsTimedOffer wanted r d ⊎ FromStops r d) ⊎ FromGroups (length wanted.feed.now.groups) r d)
-      before two three first groups (λ r d. (λ h. h, λ h. h)) in
-      let whole = gains_both (λ r d. (IsTimedOffer wanted r d ⊎ FromStops r d) ⊎ FromGroups (length wanted.feed.now.groups) r d) (FromZones (length wanted.feed.now.zones)) (IsWantedRide wanted) before three after second zones
-      (λ r d. (
-        λ h. elim h [
-          | inl (inl (inl t)) ↦ t.0
-          | inl (inl (inr s)) ↦ s.0.0
-          | inl (inr g) ↦ g.0.0
-          | inr z ↦ z.0.0
-        ],
-        λ w. elim (by_timings r d w) [
-          | inl t ↦ inl (inl (inl t))
-          | inr b ↦ elim (by_spot r d b) [
-            | inl s ↦ inl (inl (inr (b, s)))
-            | inr (inl g) ↦ inl (inr (b, g))
-            | inr (inr z) ↦ inr (b, z)
-          ]
-        ],
-      )) in
-      subst (AreOffersOf (IsWantedRide wanted)) (sym (whole.1 ∙ ap (λ xs. xs ++ whole.0) empty)) whole.2
-
--- a list that began empty has what was added alone
-pub only_added : (P : Ride → Type 0) (xs ys before : List Ride) → before ≡ [] → ys ≡ xs → ((ride : Ride) → Contains xs ride ↔ (Contains before ride ⊎ P ride)) → (ride : Ride) → Contains ys ride ↔ P ride
-only_added P xs ys before empty same new ride = (
-  λ c. elim ((new ride).0 (subst (λ l. Contains l ride) same c)) [
-    | inl old ↦ absurd (none_contained ride (subst (λ l. Contains l ride) empty old))
-    | inr p ↦ p
-  ],
-  λ p. subst (λ l. Contains l ride) (sym same) ((new ride).1 (inr p)),
-)

@@ -15,3 +15,5 @@ pub mod LegRuns
 pub mod MemberLists
 pub mod OfferLists
 pub mod RideLists
+pub mod NeededRides
+pub mod NeededOffers

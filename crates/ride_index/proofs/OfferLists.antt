@@ -8,7 +8,7 @@ use Rattle.ride_index.specs.declared.offered_run.OfferedRun.{OfferedRun}
 use Rattle.ride_index.specs.OfferedRuns.{AreOffersOf, GainsOffersOf, IsCovered}
 
 -- what covers a ride may stand among more runs
-covered_among : (xs ys : List OfferedRun) (ride : Ride) (deadline : Deadline) → ((run : OfferedRun) → Contains xs run → Contains ys run) → IsCovered xs ride deadline → IsCovered ys ride deadline
+pub covered_among : (xs ys : List OfferedRun) (ride : Ride) (deadline : Deadline) → ((run : OfferedRun) → Contains xs run → Contains ys run) → IsCovered xs ride deadline → IsCovered ys ride deadline
 covered_among xs ys ride deadline more c = record {
   run = c.run;
   among = more c.run c.among;

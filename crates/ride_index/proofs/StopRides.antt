@@ -1,5 +1,5 @@
 -- The rides from a stop, by its departures of each travel day.
-use Rattle.std.proofs.Common.{◌≡◌, ◌↔◌, ◌⊎◌, inl, inr, ℕ, ◌+◌, ◌<◌, ◌≤◌, ℤ, pos, ◌+ℤ◌, ◌≤ℤ◌, ◌<ℤ◌, Option, None, Some, List, Contains, length, slice_get, refl, sym, ◌∙◌, ap, subst, arith}
+use Rattle.std.proofs.Common.{◌≡◌, ◌↔◌, ◌⊎◌, inl, inr, ℕ, ◌+◌, ◌<◌, ◌≤◌, ℤ, pos, ◌+ℤ◌, ◌≤ℤ◌, ◌<ℤ◌, Option, None, Some, List, [], Contains, length, slice_get, refl, sym, ◌∙◌, ap, subst, arith}
 use Rattle.std.proofs.lemmas.Bool.{cases_order}
 use Rattle.std.proofs.lemmas.Int.{by_lt_z, ints}
 use Rattle.std.proofs.lemmas.Option.{slice_get_within}
@@ -18,13 +18,15 @@ use Rattle.flex_model.specs.Ride.{HasTimes, IsShiftedMoment, Leaves, StartsRight
 use Rattle.flex_model.specs.ServiceDay.{BeginsAt, IsTravelDay}
 use Rattle.flex_model.specs.SoundFeed.{IsSoundFeed, IsSoundRow, IsSoundTiming, IsSoundTrip}
 use Rattle.flex_model.proofs.Certificates.{ride_forwards}
-use Rattle.flex_model.proofs.Found.{All-at, Contains-at, index_of, slice_get_unique}
+use Rattle.flex_model.proofs.Found.{All-at, Contains-at, index_of, none_contained, slice_get_unique}
 use Rattle.fixed_trips.specs.Timed.{HasTimedRow}
 use Rattle.fixed_trips.proofs.Legs.{IsShiftedMoment_unique, names_stop}
 use Rattle.ride_index.specs.Departures.{HasDepartures, IsAmong, IsTimedDeparture, IsWithin, RunsSo}
 use Rattle.ride_index.specs.TimedRides.{IsRideAtStart, IsRideWith, IsTimedRide}
 use Rattle.ride_index.specs.declared.departure.Departure.{Departure}
 use Rattle.ride_index.specs.declared.departure.DepartureKind.TheVariants.{AtStarts, Once}
+use Rattle.ride_index.specs.Boarded.{GainsBut}
+use Rattle.ride_index.proofs.NeededRides.{but_both, but_gained, but_none, but_same}
 use Rattle.ride_index.proofs.RideLists.{Gained, gained_both, gained_none, gained_same}
 use Rattle.ride_index.proofs.StartedRides.{timed_of_once, timed_of_started, times_of}
 
@@ -124,36 +126,49 @@ module _ (P : Departure → Ride → Type 0) (xs : List Departure) where
   pub none_first : (found : List Ride) → Gained (IsOfFirst 0) found found
   none_first found = gained_none (IsOfFirst 0) found (λ x p. (let lt = p.low in omega (arith, lt)))
 
+  -- one departure more
+  first_more : (n : ℕ) (departure : Departure) (x : Ride) → slice_get xs n ≡ Some departure → (IsOfFirst n x ⊎ P departure x) ↔ IsOfFirst (n + 1) x
+  first_more n departure x is = (
+    λ h. elim h [
+      | inl early ↦ (let lt = early.low in record { at = early.at; departure = early.departure; low = omega (arith, lt); is = early.is; given = early.given })
+      | inr here ↦ record { at = n; departure = departure; low = omega arith; is = is; given = here }
+    ],
+    λ h. elim (cases_order h.at n) [
+      | inl e ↦ inr (subst (λ d. P d x) (slice_get_unique xs n h.departure departure (subst (λ k. slice_get xs k ≡ Some h.departure) e h.is) is) h.given)
+      | inr (inl less) ↦ inl (record { at = h.at; departure = h.departure; low = less; is = h.is; given = h.given })
+      | inr (inr more) ↦ absurd (let lt = h.low in omega (arith, lt, more))
+    ],
+  )
+
   pub next_first : (n : ℕ) (departure : Departure) (before found after : List Ride) → slice_get xs n ≡ Some departure → Gained (IsOfFirst n) before found
       → Gained (P departure) found after → Gained (IsOfFirst (n + 1)) before after
   next_first n departure before found after is so_far new =
-      gained_both (IsOfFirst n) (P departure) (IsOfFirst (n + 1)) before found after so_far new
-      (λ x. (
-        λ h. elim h [
-          | inl early ↦ (let lt = early.low in record { at = early.at; departure = early.departure; low = omega (arith, lt); is = early.is; given = early.given })
-          | inr here ↦ record { at = n; departure = departure; low = omega arith; is = is; given = here }
-        ],
-        λ h. elim (cases_order h.at n) [
-          | inl e ↦ inr (subst (λ d. P d x) (slice_get_unique xs n h.departure departure (subst (λ k. slice_get xs k ≡ Some h.departure) e h.is) is) h.given)
-          | inr (inl less) ↦ inl (record { at = h.at; departure = h.departure; low = less; is = h.is; given = h.given })
-          | inr (inr more) ↦ absurd (let lt = h.low in omega (arith, lt, more))
-        ],
-      ))
+      gained_both (IsOfFirst n) (P departure) (IsOfFirst (n + 1)) before found after so_far new (λ x. first_more n departure x is)
+
+  pub but_next_first : (R : Ride → Type 0) (n : ℕ) (departure : Departure) (before found after : List Ride) → slice_get xs n ≡ Some departure → GainsBut (IsOfFirst n) R before found
+      → GainsBut (P departure) R found after → GainsBut (IsOfFirst (n + 1)) R before after
+  but_next_first R n departure before found after is so_far new =
+      but_both (IsOfFirst n) (P departure) (IsOfFirst (n + 1)) R before found after so_far new (λ x. first_more n departure x is)
 
   -- the property of all of them
+  first_all : (Q : Ride → Type 0) (n : ℕ) (x : Ride) → length xs ≤ n → ((d : Departure) (ride : Ride) → Contains xs d → P d ride → Q ride)
+      → ((ride : Ride) → Q ride → (d : Departure) × Contains xs d × P d ride) → IsOfFirst n x ↔ Q x
+  first_all Q n x size each whole = (
+    λ h. each h.departure x (Contains-at xs h.at h.departure h.is) h.given,
+    λ q.
+        let d = whole x q in
+        let at = index_of xs d.0 d.1 in
+        let within = slice_get_within xs at.0 d.0 at.1 in
+        record { at = at.0; departure = d.0; low = omega (arith, within, size); is = at.1; given = d.2 },
+  )
+
   pub all_first : (Q : Ride → Type 0) (n : ℕ) (before after : List Ride) → length xs ≤ n → ((d : Departure) (ride : Ride) → Contains xs d → P d ride → Q ride)
       → ((ride : Ride) → Q ride → (d : Departure) × Contains xs d × P d ride) → Gained (IsOfFirst n) before after → Gained Q before after
-  all_first Q n before after size each whole so_far =
-      gained_same (IsOfFirst n) Q before after
-      (λ x. (
-        λ h. each h.departure x (Contains-at xs h.at h.departure h.is) h.given,
-        λ q.
-            let d = whole x q in
-            let at = index_of xs d.0 d.1 in
-            let within = slice_get_within xs at.0 d.0 at.1 in
-            record { at = at.0; departure = d.0; low = omega (arith, within, size); is = at.1; given = d.2 },
-      ))
-      so_far
+  all_first Q n before after size each whole so_far = gained_same (IsOfFirst n) Q before after (λ x. first_all Q n x size each whole) so_far
+
+  pub but_all_first : (Q R : Ride → Type 0) (n : ℕ) (before after : List Ride) → length xs ≤ n → ((d : Departure) (ride : Ride) → Contains xs d → P d ride → Q ride)
+      → ((ride : Ride) → Q ride → (d : Departure) × Contains xs d × P d ride) → GainsBut (IsOfFirst n) R before after → GainsBut Q R before after
+  but_all_first Q R n before after size each whole so_far = but_same (IsOfFirst n) Q R before after (λ x. first_all Q n x size each whole) so_far
 
 -- ---- the rides of one day
 
@@ -215,6 +230,19 @@ module _ (feed : Feed) (times : Times) (days : DayTable) (stop : ℕ) (day earli
           record { permitted = s.permitted; of_trip = l.of_trip; on_day = q.1; starts_so = q.2; boards = l.boards; alights = s.alights; arrives = s.arrives },
         )
 
+  -- where no time is left, no ride is
+  pub none_once : (base : ℤ) (from until : ℕ) (departures : List Departure) → HasDepartures feed Once departures → BeginsAt days day base
+      → ((time : ℕ) → time < 604800 → (from ≤ time) ↔ (earliest ≤ℤ (base +ℤ pos time)))
+      → ((time : ℕ) → time < 604800 → (time < until) ↔ ((base +ℤ pos time) ≤ℤ limit)) → until ≤ from → (ride : Ride) → IsOnce ride → ⊥
+  none_once base from until departures index begins first last empty ride q =
+      let found = whole_once base from until departures [] index begins first last
+      (λ d. (
+        λ c. absurd (none_contained d c),
+        λ h. (let low = h.1.from_then in let high = h.1.until_then in absurd (omega (arith, empty, low, high))),
+      ))
+      ride q in
+      none_contained found.0 found.1
+
   module _ (departures xs : List Departure) (index : HasDepartures feed AtStarts departures) (end : ℕ) (late : end ≡ 604800)
       (listed : (d : Departure) → Contains xs d ↔ (Contains departures d × IsWithin stop 0 end d)) where
     pub each_started : (d : Departure) (ride : Ride) → Contains xs d → IsRideAtStart feed times days d day earliest limit ride → IsStarted ride
@@ -254,10 +282,10 @@ module _ (feed : Feed) (times : Times) (days : DayTable) (stop : ℕ) (day earli
   by_start ride None e s on = inl (s, on, e)
   by_start ride (Some start) e s on = inr (s, on, (start, e))
 
-  pub both_kinds : (before found after : List Ride) → Gained IsOnce before found → Gained IsStarted found after
-      → Gained (λ ride. IsTimedRide feed times days stop earliest limit ride × (ride.day ≡ day)) before after
-  both_kinds before found after once started =
-      gained_both IsOnce IsStarted (λ ride. IsTimedRide feed times days stop earliest limit ride × (ride.day ≡ day)) before found after once started
+  pub both_kinds : (R : Ride → Type 0) (before found after : List Ride) → GainsBut IsOnce R before found → Gained IsStarted found after
+      → GainsBut (λ ride. IsTimedRide feed times days stop earliest limit ride × (ride.day ≡ day)) R before after
+  both_kinds R before found after once started =
+      but_both IsOnce IsStarted (λ ride. IsTimedRide feed times days stop earliest limit ride × (ride.day ≡ day)) R before found after once (but_gained IsStarted R found after started)
       (λ x. (λ h. elim h [ inl a ↦ (a.0, a.1) | inr b ↦ (b.0, b.1) ], λ h. by_start x x.start refl h.0 h.1))
 
   -- a day that doesn't begin has no ride
@@ -275,17 +303,17 @@ module _ (feed : Feed) (days : DayTable) (stop : ℕ) (earliest limit first : �
   abbrev pub IsEarlyDay : ℕ → Times → Ride → Type 0
   IsEarlyDay n times ride = IsTimedRide feed times days stop earliest limit ride × (ride.day <ℤ (first +ℤ pos n))
 
-  pub no_days : (times : Times) (found : List Ride) → Gained (IsEarlyDay 0 times) found found
-  no_days times found = gained_none (IsEarlyDay 0 times) found (λ x p.
+  pub no_days : (R : Ride → Type 0) (times : Times) (found : List Ride) → GainsBut (IsEarlyDay 0 times) R found found
+  no_days R times found = but_none (IsEarlyDay 0 times) R found (λ x p.
       let on = (travel x.day).0 p.0.permitted.on_travel_day in
       let low = on.0 in
       let lt = p.1 in
-      omega (arith, ints, low, lt))
+      absurd (omega (arith, ints, low, lt)))
 
-  pub next_day : (n : ℕ) (day : ℤ) (times : Times) (before found after : List Ride) → day ≡ first +ℤ pos n → Gained (IsEarlyDay n times) before found
-      → Gained (λ ride. IsTimedRide feed times days stop earliest limit ride × (ride.day ≡ day)) found after → Gained (IsEarlyDay (n + 1) times) before after
-  next_day n day times before found after is so_far new =
-      gained_both (IsEarlyDay n times) (λ ride. IsTimedRide feed times days stop earliest limit ride × (ride.day ≡ day)) (IsEarlyDay (n + 1) times) before found after so_far new
+  pub next_day : (R : Ride → Type 0) (n : ℕ) (day : ℤ) (times : Times) (before found after : List Ride) → day ≡ first +ℤ pos n → GainsBut (IsEarlyDay n times) R before found
+      → GainsBut (λ ride. IsTimedRide feed times days stop earliest limit ride × (ride.day ≡ day)) R found after → GainsBut (IsEarlyDay (n + 1) times) R before after
+  next_day R n day times before found after is so_far new =
+      but_both (IsEarlyDay n times) (λ ride. IsTimedRide feed times days stop earliest limit ride × (ride.day ≡ day)) (IsEarlyDay (n + 1) times) R before found after so_far new
       (λ x. (
         λ h. elim h [
           | inl p ↦ (let lt = p.1 in (p.0, omega (arith, ints, lt)))
@@ -294,9 +322,10 @@ module _ (feed : Feed) (days : DayTable) (stop : ℕ) (earliest limit first : �
         λ p. by_lt_z x.day (first +ℤ pos n) (λ lt. inl (p.0, lt)) (λ ge. (let lt = p.1 in inr (p.0, omega (arith, ints, ge, lt, is)))),
       ))
 
-  pub all_days : (n : ℕ) (times : Times) (before after : List Ride) → 22 ≤ n → Gained (IsEarlyDay n times) before after → Gained (IsTimedRide feed times days stop earliest limit) before after
-  all_days n times before after size so_far =
-      gained_same (IsEarlyDay n times) (IsTimedRide feed times days stop earliest limit) before after
+  pub all_days : (R : Ride → Type 0) (n : ℕ) (times : Times) (before after : List Ride) → 22 ≤ n → GainsBut (IsEarlyDay n times) R before after
+      → GainsBut (IsTimedRide feed times days stop earliest limit) R before after
+  all_days R n times before after size so_far =
+      but_same (IsEarlyDay n times) (IsTimedRide feed times days stop earliest limit) R before after
       (λ x. (
         λ p. p.0,
         λ s.

@@ -1,4 +1,5 @@
 pub mod ActiveDays
+pub mod Boarded
 pub mod Departures
 pub mod Index
 pub mod Legs

@@ -3,6 +3,7 @@
 
 mod active_days;
 mod alightings;
+mod boarded;
 mod boardings;
 mod departure;
 mod departures;
@@ -22,12 +23,13 @@ mod wanted;
 mod windows;
 
 pub use active_days::ActiveDays;
+pub use boarded::{Boarded, BoardingPoint, Carried};
 pub use departure::{Departure, DepartureKind};
 pub use departures::DepartureList;
 pub use index::RideIndex;
 pub use members::{Member, MemberList};
 pub use offered_run::OfferedRun;
-pub use place_offers::offers_from;
+pub use place_offers::{offers_after, offers_from};
 pub use rides::add_rides;
 pub use started::add_rides_at_starts;
 pub use stop_rides::add_timed_rides;

@@ -1,12 +1,14 @@
 // The offers from a place.
 
-ghost use Rattle.std.specs.Prelude.{◌<◌, ℕ, Contains, OnOk, length};
+ghost use Rattle.std.specs.Prelude.{◌≡◌, ◌<◌, ◌++◌, ◌∷◌, [], ℕ, Contains, OnOk, length};
 ghost use Rattle.flex_model.specs.declared.trip.Spot.TheVariants as spot;
+ghost use Rattle.ride_index.specs.Boarded.{AreOfferedAfter, GainsOffersBut, IsCoveredBefore, point_of};
 ghost use Rattle.ride_index.specs.Index.{IsIndexOf};
 ghost use Rattle.ride_index.specs.Legs.{BoardsFrom, IsTimedOffer, IsWindowRide};
 ghost use Rattle.ride_index.specs.OfferedRuns.{AreOfferedFrom, GainsOffersOf, IsSoundWanted};
 ghost use Rattle.ride_index.specs.declared.members.Member.{Member};
 
+use crate::boarded::{Boarded, BoardingPoint, Carried};
 use crate::boardings::add_offers_at;
 use crate::index::RideIndex;
 use crate::members::Member;
@@ -14,20 +16,24 @@ use crate::offered_run::OfferedRun;
 use crate::offers::add_offers_of_rides;
 use crate::stop_rides::add_timed_rides;
 use crate::wanted::Wanted;
-use flex_model::{NoMemory, Place, Spot};
+use flex_model::{Deadline, NoMemory, Place, Spot};
 use std::alloc::Global;
 use zone_test::serves;
 
-// Adds the offers of rides between records with times.
+// Adds the offers of rides between records with times, but for some that an earlier point covers.
 fn add_timed_offers(
     alloc: Global,
     index: &RideIndex,
     wanted: &Wanted<'_>,
+    carried: &Carried,
+    boarded: &mut Boarded,
     into: &mut Vec<OfferedRun>,
 ) -> Result<(), NoMemory>
     requires index { IsIndexOf wanted.now.feed.now index.now }
     requires wanted { IsSoundWanted wanted.now }
-    ensures { OnOk result (GainsOffersOf (IsTimedOffer wanted.now) into.old.items into.new.items) }
+    ensures points { boarded.new.0 ≡ boarded.old.0 }
+    ensures offers { OnOk result (GainsOffersBut (IsTimedOffer wanted.now)
+        (IsCoveredBefore wanted.now boarded.old.0 carried.now) into.old.items into.new.items) }
 {
     let Place::Stop(stop) = wanted.place else {
         return Ok(());
@@ -41,6 +47,8 @@ fn add_timed_offers(
         stop,
         wanted.earliest,
         wanted.limit,
+        carried,
+        boarded,
         &mut rides,
     )?;
     add_offers_of_rides(wanted, rides.as_slice(), into)?;
@@ -207,11 +215,42 @@ fn add_zone_offers(
     Ok(())
 }
 
-/// Puts the runs that are offered from the place into the list, in place of what it held: rides from
-/// the place alone that leave at the moment or later, arrive by the limit, can be booked when asked,
-/// and alight at a stop or at the destination, each with its deadline. For each such ride one of
-/// them alights at the same place, can be booked no less late, leaves no earlier and arrives no
-/// later. So one list serves each later moment at the place too, by its rides from then on.
+/// Puts runs that are offered from the place into the list, in place of what it held: rides from the
+/// place alone that leave at the moment or later, arrive by the limit, can be booked when asked, and
+/// alight at a stop or at the destination, each with its deadline. Each such ride is covered: a ride
+/// of a run, or one that is wanted from a point that was boarded before with no earlier a deadline and
+/// no longer a walk, alights at the same place, can be booked no less late and arrives no later. The
+/// place becomes one of these points: its rides are held before this is called again.
+pub fn offers_after(
+    alloc: Global,
+    index: &RideIndex,
+    wanted: &Wanted<'_>,
+    carried: &Carried,
+    boarded: &mut Boarded,
+    into: &mut Vec<OfferedRun>,
+) -> Result<(), NoMemory>
+    requires index { IsIndexOf wanted.now.feed.now index.now }
+    requires wanted { IsSoundWanted wanted.now }
+    ensures points { OnOk result
+        (boarded.new.0 ≡ boarded.old.0 ++ point_of wanted.now carried.now ∷ []) }
+    ensures offers { OnOk result
+        (AreOfferedAfter wanted.now boarded.old.0 carried.now into.new.items) }
+{
+    into.clear();
+    add_timed_offers(alloc, index, wanted, carried, boarded, into)?;
+    add_stop_offers(index, wanted, into)?;
+    add_group_offers(index, wanted, into)?;
+    add_zone_offers(index, wanted, into)?;
+    boarded.add(BoardingPoint {
+        place: wanted.place,
+        earliest: wanted.earliest,
+        carried: *carried,
+    })?;
+    Ok(())
+}
+
+/// The same where nothing was boarded before: each such ride is covered by a ride of a run, which also leaves no
+/// earlier. So one list serves each later moment at the place too, by its rides from then on.
 pub fn offers_from(
     alloc: Global,
     index: &RideIndex,
@@ -222,10 +261,11 @@ pub fn offers_from(
     requires wanted { IsSoundWanted wanted.now }
     ensures { OnOk result (AreOfferedFrom wanted.now into.new.items) }
 {
-    into.clear();
-    add_timed_offers(alloc, index, wanted, into)?;
-    add_stop_offers(index, wanted, into)?;
-    add_group_offers(index, wanted, into)?;
-    add_zone_offers(index, wanted, into)?;
+    let mut boarded = Boarded::new(alloc, 0)?;
+    let carried = Carried {
+        deadline: Deadline::Never,
+        walk: 0,
+    };
+    offers_after(alloc, index, wanted, &carried, &mut boarded, into)?;
     Ok(())
 }

@@ -10,12 +10,14 @@ ghost use Rattle.flex_model.specs.declared.times.Times.{Times};
 ghost use Rattle.service_days.specs.Running.{IsRunning};
 ghost use Rattle.fixed_trips.specs.Timed.{MayRun};
 ghost use Rattle.ride_index.specs.ActiveDays.{AreActiveDays};
+ghost use Rattle.ride_index.specs.Boarded.{GainsBut, IsNeedless};
 ghost use Rattle.ride_index.specs.Departures.{IsDeparture, IsTimedDeparture};
 ghost use Rattle.ride_index.specs.declared.departure.DepartureKind.TheVariants.{Once};
 ghost use Rattle.ride_index.specs.TimedRides.{IsRideWith, IsZero, boarded_with};
 
 use crate::active_days::ActiveDays;
 use crate::alightings::{add_alightings, moment_after};
+use crate::boarded::{Boarded, Carried};
 use crate::departure::Departure;
 use flex_model::{DayTable, Feed, Moment, NoMemory, Place, Ride, Trip};
 use freq_trips::shift;
@@ -124,6 +126,42 @@ pub fn add_rides(
     let Some(base) = running_base(feed, days, active, trip, day) else {
         return Ok(());
     };
+    add_started(feed, days, trip, departure, day, base, None, limit, found)?;
+    Ok(())
+}
+
+// Adds the rides that leave with the departure on the day, alight at records with times and arrive
+// by the limit, unless they are needless, coming with what is carried. The departure is of a trip that
+// `frequencies.txt` doesn't name.
+pub(crate) fn add_needed_rides(
+    feed: &Feed,
+    days: &DayTable,
+    active: &ActiveDays,
+    departure: &Departure,
+    day: i32,
+    limit: Moment,
+    carried: &Carried,
+    boarded: &mut Boarded,
+    found: &mut Vec<Ride>,
+) -> Result<(), NoMemory>
+    requires feed { IsSoundFeed feed.now }
+    requires days { IsSoundDayTable days.now }
+    requires active { AreActiveDays feed.now days.now active.now }
+    requires departure { IsDeparture feed.now Once departure.now }
+    ensures points { boarded.new.0 ≡ boarded.old.0 }
+    ensures rides { OnOk result ((times : Times) → GainsBut
+        (IsRideWith feed.now times days.now departure.now day None limit)
+        (IsNeedless feed.now times days.now boarded.old.0 carried.now)
+        found.old.items found.new.items) }
+{
+    let trip = &feed.trips[departure.trip as usize];
+    let Some(base) = running_base(feed, days, active, trip, day) else {
+        return Ok(());
+    };
+    let zero = zero_of(base, trip, None);
+    if boarded.skips(carried, trip.rows.as_slice(), departure, day, zero) {
+        return Ok(());
+    }
     add_started(feed, days, trip, departure, day, base, None, limit, found)?;
     Ok(())
 }

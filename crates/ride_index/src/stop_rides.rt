@@ -7,12 +7,14 @@ ghost use Rattle.flex_model.specs.SoundQuery.{IsSoundDayTable};
 ghost use Rattle.flex_model.specs.declared.ride.Ride.{Ride};
 ghost use Rattle.flex_model.specs.declared.times.Times.{Times};
 ghost use Rattle.ride_index.specs.ActiveDays.{AreActiveDays};
+ghost use Rattle.ride_index.specs.Boarded.{GainsBut, IsNeedless};
 ghost use Rattle.ride_index.specs.Index.{IsIndexOf};
 ghost use Rattle.ride_index.specs.TimedRides.{IsTimedRide};
 
 use crate::active_days::{ActiveDays, day_after};
+use crate::boarded::{Boarded, Carried};
 use crate::index::RideIndex;
-use crate::rides::add_rides;
+use crate::rides::add_needed_rides;
 use crate::started::add_rides_at_starts;
 use crate::times::{END_OF_TIMES, first_time, time_after};
 use flex_model::{DayTable, Feed, Moment, NoMemory, Ride};
@@ -29,6 +31,8 @@ fn add_day_once(
     stop: u32,
     earliest: Moment,
     limit: Moment,
+    carried: &Carried,
+    boarded: &mut Boarded,
     found: &mut Vec<Ride>,
 ) -> Result<(), NoMemory>
     requires index { IsIndexOf feed.now index.now }
@@ -36,16 +40,23 @@ fn add_day_once(
     requires days { IsSoundDayTable days.now }
     requires active { AreActiveDays feed.now days.now active.now }
     requires begins { BeginsAt days.now day base }
-    ensures { OnOk result ((times : Times) (ride : Ride) → Contains found.new.items ride
-        ↔ (Contains found.old.items ride
-        ⊎ (IsTimedRide feed.now times days.now stop earliest limit ride
-        × (ride.day ≡ day) × (ride.start ≡ None)))) }
+    ensures points { boarded.new.0 ≡ boarded.old.0 }
+    ensures rides { OnOk result ((times : Times) → GainsBut
+        (λ ride. IsTimedRide feed.now times days.now stop earliest limit ride
+        × (ride.day ≡ day) × (ride.start ≡ None))
+        (IsNeedless feed.now times days.now boarded.old.0 carried.now)
+        found.old.items found.new.items) }
 {
-    let departures = index
-        .once
-        .between(stop, first_time(base, earliest), time_after(base, limit));
+    let from = first_time(base, earliest);
+    let until = time_after(base, limit);
+    if until <= from {
+        return Ok(());
+    }
+    let departures = index.once.between(stop, from, until);
     for departure in departures {
-        add_rides(feed, days, active, departure, day, limit, found)?;
+        add_needed_rides(
+            feed, days, active, departure, day, limit, carried, boarded, found,
+        )?;
     }
     Ok(())
 }
@@ -88,29 +99,34 @@ fn add_day(
     stop: u32,
     earliest: Moment,
     limit: Moment,
+    carried: &Carried,
+    boarded: &mut Boarded,
     found: &mut Vec<Ride>,
 ) -> Result<(), NoMemory>
     requires index { IsIndexOf feed.now index.now }
     requires feed { IsSoundFeed feed.now }
     requires days { IsSoundDayTable days.now }
     requires active { AreActiveDays feed.now days.now active.now }
-    ensures { OnOk result ((times : Times) (ride : Ride) → Contains found.new.items ride
-        ↔ (Contains found.old.items ride
-        ⊎ (IsTimedRide feed.now times days.now stop earliest limit ride
-        × (ride.day ≡ day)))) }
+    ensures points { boarded.new.0 ≡ boarded.old.0 }
+    ensures rides { OnOk result ((times : Times) → GainsBut
+        (λ ride. IsTimedRide feed.now times days.now stop earliest limit ride
+        × (ride.day ≡ day))
+        (IsNeedless feed.now times days.now boarded.old.0 carried.now)
+        found.old.items found.new.items) }
 {
     let Some(base) = begin(days, day) else {
         return Ok(());
     };
     add_day_once(
-        index, feed, days, active, day, base, stop, earliest, limit, found,
+        index, feed, days, active, day, base, stop, earliest, limit, carried, boarded, found,
     )?;
     add_day_at_starts(index, feed, days, active, day, stop, earliest, limit, found)?;
     Ok(())
 }
 
-/// Adds the rides from the stop that leave at the moment or later, arrive by the limit and go between
-/// two records with times: each of them, on all travel days and at all starts, and no others.
+/// Adds rides from the stop that leave at the moment or later, arrive by the limit and go between two
+/// records with times: all of them, on all travel days and at all starts, but some that are needless,
+/// coming with what is carried.
 pub fn add_timed_rides(
     index: &RideIndex,
     feed: &Feed,
@@ -119,20 +135,26 @@ pub fn add_timed_rides(
     stop: u32,
     earliest: Moment,
     limit: Moment,
+    carried: &Carried,
+    boarded: &mut Boarded,
     found: &mut Vec<Ride>,
 ) -> Result<(), NoMemory>
     requires index { IsIndexOf feed.now index.now }
     requires feed { IsSoundFeed feed.now }
     requires days { IsSoundDayTable days.now }
     requires active { AreActiveDays feed.now days.now active.now }
-    ensures { OnOk result ((times : Times) (ride : Ride) → Contains found.new.items ride
-        ↔ (Contains found.old.items ride
-        ⊎ IsTimedRide feed.now times days.now stop earliest limit ride)) }
+    ensures points { boarded.new.0 ≡ boarded.old.0 }
+    ensures rides { OnOk result ((times : Times) → GainsBut
+        (IsTimedRide feed.now times days.now stop earliest limit)
+        (IsNeedless feed.now times days.now boarded.old.0 carried.now)
+        found.old.items found.new.items) }
 {
     let first = first_travel_day(days);
     for ahead in 0..22_u32 {
         let day = day_after(first, ahead);
-        add_day(index, feed, days, active, day, stop, earliest, limit, found)?;
+        add_day(
+            index, feed, days, active, day, stop, earliest, limit, carried, boarded, found,
+        )?;
     }
     Ok(())
 }

@@ -16,3 +16,4 @@ pub mod ModestOffers
 pub mod GainedBoardings
 pub mod AllBoardings
 pub mod MarkedBags
+pub mod Limits

@@ -1,23 +1,28 @@
 -- One offer more in a round.
-use Rattle.std.proofs.Common.{◌≡◌, inl, inr, ℕ, ◌+◌, ◌*◌, ◌<◌, pos, ◌+ℤ◌, ◌≤ℤ◌, List, All, Contains, slice_index_or, length, refl, sym, ◌∙◌, ap, subst, arith}
+use Rattle.std.proofs.Common.{◌≡◌, inl, inr, ℕ, ◌+◌, ◌*◌, ◌<◌, ℤ, pos, ◌+ℤ◌, ◌≤ℤ◌, List, [], ◌∷◌, ◌++◌, All, Contains, slice_index_or, length, refl, sym, ◌∙◌, ap, subst, arith}
 use Rattle.std.specs.Borrow.{Bor}
 use Rattle.std.proofs.lemmas.Bool.{cases_lt, cases_order}
-use Rattle.std.proofs.lemmas.Int.{ints}
+use Rattle.std.proofs.lemmas.Int.{by_lt_z, ints}
 use Rattle.std.proofs.lemmas.List.{get_or_default}
-use Rattle.std.proofs.lemmas.List.Elements.{Contains-get_or}
+use Rattle.std.proofs.lemmas.List.Elements.{Contains-get_or, Contains-push_cases}
 use Rattle.flex_model.specs.declared.moment.Deadline.{Deadline}
 use Rattle.flex_model.specs.Change.{HasEgress}
 use Rattle.flex_model.specs.Deadline.{IsNoLater, lesser}
 use Rattle.flex_model.specs.Journey.{limit}
 use Rattle.flex_model.proofs.Orders.{IsNoLater-lesser, IsNoLater_trans, lesser_left, lesser_right}
 use Rattle.flex_model.specs.declared.answer.Pair.{Pair}
+use Rattle.flex_model.specs.declared.ride.Ride.{Ride}
+use Rattle.flex_model.specs.LabelTable.{IsOnTheWay}
 use Rattle.flex_model.specs.Triple.{CoversPair}
 use Rattle.booking_rules.specs.Departures.{later}
 use Rattle.ride_index.specs.declared.active_days.ActiveDays.{ActiveDays}
 use Rattle.ride_index.specs.declared.offered_run.OfferedRun.{OfferedRun}
-use Rattle.ride_index.specs.OfferedRuns.{AreOfferedFrom}
+use Rattle.ride_index.specs.declared.boarded.BoardingPoint.{BoardingPoint}
+use Rattle.ride_index.specs.Boarded.{AreOfferedAfter, IsCoveredBefore}
+use Rattle.ride_index.specs.OfferedRuns.{IsCovered}
 use Rattle.round_engine.specs.declared.offer.Offer.{Offer}
-use Rattle.round_engine.specs.Offers.{nth_offer, wanted_from}
+use Rattle.round_engine.specs.Limits.{IsInAny, IsLimitOver}
+use Rattle.round_engine.specs.Offers.{LeavesFrom, nth_offer, wanted_from}
 use Rattle.round_engine.specs.declared.boarding.Boarding.{Boarding}
 use Rattle.round_engine.specs.declared.label.Label.{Label}
 use Rattle.round_engine.specs.declared.task.Task.{Task}
@@ -25,8 +30,9 @@ use Rattle.round_engine.specs.Attained.{AreEnds, IsEndKept, IsEntry, IsHeldNow, 
 use Rattle.round_engine.specs.Bags.{BagsGrow, Entry, GainsAtLast, IsKept, IsKeptByAny, IsOffer, bag_at}
 use Rattle.round_engine.specs.Chain.{deadline_up_to, pair_of, place_of}
 use Rattle.round_engine.specs.Made.{made_pair}
-use Rattle.round_engine.specs.Ridden.{AreRidden}
+use Rattle.round_engine.specs.Ridden.{AreRidden, IsPointRidden, carried_to, pair_from, point_at}
 use Rattle.flex_model.proofs.Orders.{CoversPair_trans}
+use Rattle.round_engine.proofs.Limits.{covered_by_end}
 
 pub grow_refl : (bags : List (List Entry)) → BagsGrow bags bags
 grow_refl bags = record { count = refl; kept = λ i pair kept. kept }
@@ -112,19 +118,10 @@ IsRunFrom task boarding run = (k : ℕ) → k < run.count → IsOfferFrom task b
 
 -- a ride is covered by the ride of a run that covers it
 module _ (task : Task) (active : Bor ActiveDays) (earlier : List (List (List Entry))) (round ends : List (List Entry)) (boarding : Boarding)
-    (runs : List OfferedRun) where
-  pub all_ridden : AreOfferedFrom (wanted_from task active boarding.place boarding.earliest) runs → All (IsRunHeld task earlier round ends boarding) runs
-      → AreRidden task earlier round ends boarding
-  all_ridden are held ride deadline way leaves =
-      let found = are.whole ride deadline (record {
-        permitted = way.usable.permitted;
-        bookable = way.usable.bookable;
-        booked = way.booked;
-        boards = leaves.boards;
-        alights = way.alights;
-        leaves = leaves.leaves;
-        arrives = way.arrives;
-      }) in
+    (runs : List OfferedRun) (least_limit : ℤ) where
+  covered_ridden : All (IsRunHeld task earlier round ends boarding) runs → (ride : Ride) (deadline : Deadline) → IsCovered runs ride deadline
+      → IsHeldNow earlier round ends (number_of (length task.feed.now.stops) ride.alight) (made_pair boarding (record { ride = ride; deadline = deadline }))
+  covered_ridden held ride deadline found =
       let run : OfferedRun = found.run in
       let at = found.among in
       let least : Deadline = deadline_up_to boarding.parent in
@@ -139,6 +136,66 @@ module _ (task : Task) (active : Bor ActiveDays) (earlier : List (List (List Ent
       held_weaker earlier round ends (number_of (length task.feed.now.stops) ride.alight) (made_pair boarding offer) (made_pair boarding wanted) covers
       (subst (λ p. IsHeldNow earlier round ends (number_of (length task.feed.now.stops) p) (made_pair boarding offer)) found.alights
       ((subst (IsRunHeld task earlier round ends boarding) at.2 (held at.0 run at.1)) found.at found.low))
+
+  -- a ride that a point before covers is held as what that point's ride makes is
+  before_ridden : (points : List BoardingPoint) → ((point : BoardingPoint) → Contains points point → IsPointRidden task earlier round ends point)
+      → least_limit ≤ℤ limit task.query.now → (ride : Ride) (deadline : Deadline)
+      → IsCoveredBefore (wanted_from task active boarding.place boarding.earliest least_limit) points (carried_to boarding) ride deadline
+      → IsHeldNow earlier round ends (number_of (length task.feed.now.stops) ride.alight) (made_pair boarding (record { ride = ride; deadline = deadline }))
+  before_ridden points ridden less ride deadline b =
+      let point : BoardingPoint = b.point in
+      let other : Ride = b.other in
+      let is = b.is_wanted in
+      let least : Deadline = deadline_up_to boarding.parent in
+      let by = is.arrives in
+      let wanted : Offer = record { ride = ride; deadline = deadline } in
+      let held = ridden point b.among other b.its (record {
+        usable = record { permitted = is.permitted; bookable = is.bookable };
+        booked = is.booked;
+        alights = is.alights;
+        arrives = omega (arith, ints, by, less);
+      })
+      (record { boards = is.boards; leaves = is.leaves }) in
+      held_weaker earlier round ends (number_of (length task.feed.now.stops) ride.alight) (pair_from point.carried other b.its) (made_pair boarding wanted)
+      (record {
+        deadline = IsNoLater-lesser (lesser least deadline) point.carried.deadline b.its
+            (IsNoLater_trans (lesser least deadline) least point.carried.deadline (lesser_left least deadline) b.as_good.booked)
+            (IsNoLater_trans (lesser least deadline) deadline b.its (lesser_right least deadline) b.booked);
+        arrival = b.arrives;
+        walk = b.as_good.short;
+      })
+      (subst (λ p. IsHeldNow earlier round ends (number_of (length task.feed.now.stops) p) (pair_from point.carried other b.its)) b.alights held)
+
+  offered_ridden : (points : List BoardingPoint) → ((point : BoardingPoint) → Contains points point → IsPointRidden task earlier round ends point)
+      → least_limit ≤ℤ limit task.query.now
+      → AreOfferedAfter (wanted_from task active boarding.place boarding.earliest least_limit) points (carried_to boarding) runs → All (IsRunHeld task earlier round ends boarding) runs
+      → (ride : Ride) (deadline : Deadline) → IsOnTheWay task.feed.now task.times.now task.days.now task.query.now ride deadline
+      → LeavesFrom boarding.place boarding.earliest ride → ride.arrives ≤ℤ least_limit
+      → IsHeldNow earlier round ends (number_of (length task.feed.now.stops) ride.alight) (made_pair boarding (record { ride = ride; deadline = deadline }))
+  offered_ridden points ridden less are held ride deadline way leaves in_time =
+      elim (are.whole ride deadline (record {
+        permitted = way.usable.permitted;
+        bookable = way.usable.bookable;
+        booked = way.booked;
+        boards = leaves.boards;
+        alights = way.alights;
+        leaves = leaves.leaves;
+        arrives = in_time;
+      })) [
+        | inl covered ↦ covered_ridden held ride deadline covered
+        | inr before ↦ before_ridden points ridden less ride deadline before
+      ]
+
+  -- what arrives later is covered by an end
+  pub all_ridden : (before : List (List Entry)) (points : List BoardingPoint) → BagsGrow before ends
+      → ((point : BoardingPoint) → Contains points point → IsPointRidden task earlier round ends point)
+      → IsLimitOver (IsInAny before) (deadline_up_to boarding.parent) boarding.walk (limit task.query.now) least_limit
+      → AreOfferedAfter (wanted_from task active boarding.place boarding.earliest least_limit) points (carried_to boarding) runs
+      → All (IsRunHeld task earlier round ends boarding) runs → AreRidden task earlier round ends boarding
+  all_ridden before points grow ridden limited are held ride deadline way leaves = by_lt_z least_limit ride.arrives
+      (λ past. inr (inl (kept_by_more before ends (made_pair boarding (record { ride = ride; deadline = deadline })) grow
+      (covered_by_end before boarding (record { ride = ride; deadline = deadline }) (limit task.query.now) least_limit limited way.arrives past))))
+      (λ in_time. offered_ridden points ridden limited.low are held ride deadline way leaves in_time)
 
 -- The first rides of a run are taken in.
 pub record IsRunTaken (task : Task) (earlier : List (List (List Entry))) (boarding : Boarding) (run : OfferedRun)
@@ -219,17 +276,34 @@ module _ (task : Task) (earlier : List (List (List Entry))) (a a' b b' c c' : Li
     ];
   }
 
+-- What the points make is held as the round goes on.
+pub points_on : (task : Task) (earlier : List (List (List Entry))) (b b' c c' : List (List Entry)) (points : List BoardingPoint) → IsStep task earlier b b' c c'
+    → ((point : BoardingPoint) → Contains points point → IsPointRidden task earlier b b' point)
+    → (point : BoardingPoint) → Contains points point → IsPointRidden task earlier c c' point
+points_on task earlier b b' c c' points step ridden point among ride deadline way leaves =
+    held_on earlier b b' c c' _ _ step.round_grows step.ends_grow (ridden point among ride deadline way leaves)
+
+-- The boarding's point is one more.
+pub points_more : (task : Task) (earlier : List (List (List Entry))) (round ends : List (List Entry)) (points : List BoardingPoint) (boarding : Boarding)
+    → ((point : BoardingPoint) → Contains points point → IsPointRidden task earlier round ends point) → AreRidden task earlier round ends boarding
+    → (point : BoardingPoint) → Contains (points ++ point_at boarding ∷ []) point → IsPointRidden task earlier round ends point
+points_more task earlier round ends points boarding ridden new point among = elim (Contains-push_cases points (point_at boarding) point among) [
+  | inl old ↦ ridden point old
+  | inr same ↦ subst (IsPointRidden task earlier round ends) same new
+]
+
 -- runs that are offered from a boarding
-pub runs_from_boarding : (task : Task) (active : Bor ActiveDays) (boarding : Boarding) (runs : List OfferedRun)
-    → AreOfferedFrom (wanted_from task active boarding.place boarding.earliest) runs → All (IsRunFrom task boarding) runs
-runs_from_boarding task active boarding runs are = λ j d lt k low.
+pub runs_from_boarding : (task : Task) (active : Bor ActiveDays) (boarding : Boarding) (runs : List OfferedRun) (points : List BoardingPoint) (least_limit : ℤ)
+    → least_limit ≤ℤ limit task.query.now
+    → AreOfferedAfter (wanted_from task active boarding.place boarding.earliest least_limit) points (carried_to boarding) runs → All (IsRunFrom task boarding) runs
+runs_from_boarding task active boarding runs points least_limit less are = λ j d lt k low.
     let wanted = are.each (slice_index_or runs j d) k (Contains-get_or runs j d lt) low in
     record {
       on_the_way = record {
         usable = record { permitted = wanted.permitted; bookable = wanted.bookable };
         booked = wanted.booked;
         alights = wanted.alights;
-        arrives = wanted.arrives;
+        arrives = (let by = wanted.arrives in omega (arith, ints, by, less));
       };
       leaves = record { boards = wanted.boards; leaves = wanted.leaves };
     }

@@ -3,6 +3,7 @@ pub mod Bags
 pub mod Boardings
 pub mod Chain
 pub mod Flat
+pub mod Limits
 pub mod Made
 pub mod Offers
 pub mod Ridden

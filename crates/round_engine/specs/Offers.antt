@@ -1,15 +1,14 @@
 -- Offers: single rides of the runs that are offered from a boarding.
 --
 -- A ride is wanted from a boarding where it is usable, alights at a stop or at the destination, arrives
--- by the query's limit, boards at the boarding's place and leaves no earlier than one can be there. This
--- project's own.
+-- by a limit, boards at the boarding's place and leaves no earlier than one can be there. This project's
+-- own.
 use Rattle.std.specs.Prelude.{◌≡◌, ℕ, ℤ, pos, ◌≤ℤ◌}
 use Rattle.std.specs.Borrow.{Bor}
 use Rattle.flex_model.specs.declared.moment.Deadline.{Deadline}
 use Rattle.flex_model.specs.declared.moment.Deadline.TheVariants.{At}
 use Rattle.flex_model.specs.declared.place.Place.{Place}
 use Rattle.flex_model.specs.declared.ride.Ride.{Ride}
-use Rattle.flex_model.specs.Journey.{limit}
 use Rattle.ride_index.specs.declared.active_days.ActiveDays.{ActiveDays}
 use Rattle.ride_index.specs.declared.offered_run.OfferedRun.{OfferedRun}
 use Rattle.ride_index.specs.declared.wanted.Wanted.{Wanted}
@@ -30,9 +29,9 @@ pub record AreLookupsOf (task : Task) (lookups : Lookups) : Type 0 where
   pub index : IsIndexOf task.feed.now lookups.index.now
   pub active : AreActiveDays task.feed.now task.days.now lookups.active.now
 
--- the rides that are wanted from the place, where one can be at the moment
-abbrev pub wanted_from : Task → Bor ActiveDays → Place → ℤ → Wanted
-wanted_from task active place earliest = record {
+-- the rides that are wanted from the place, where one can be at the moment, by the limit
+abbrev pub wanted_from : Task → Bor ActiveDays → Place → ℤ → ℤ → Wanted
+wanted_from task active place earliest limit = record {
   feed = task.feed;
   times = task.times;
   days = task.days;
@@ -41,7 +40,7 @@ wanted_from task active place earliest = record {
   destination = task.query.now.destination;
   place = place;
   earliest = earliest;
-  limit = limit task.query.now;
+  limit = limit;
 }
 
 -- the ride of the run with this number, counted from 0, with its deadline

@@ -1,13 +1,15 @@
 // The best ways to the destination so far.
 
-ghost use Rattle.std.specs.Prelude.{◌≡◌, ◌<◌, ◌-◌, ◌↔◌, ◌++◌, ◌∷◌, [], IsTrue, OnErr, OnOk, length};
+ghost use Rattle.std.specs.Prelude.{◌≡◌, ◌<◌, ◌-◌, ◌↔◌, ◌++◌, ◌∷◌, [], Contains, IsTrue, OnErr, OnOk, length};
 ghost use Rattle.label_bag.specs.Bag.{IsBag};
 ghost use Rattle.round_engine.specs.Bags.{AreApartBags, IsKeptByAny, IsOffer, bag_at};
+ghost use Rattle.round_engine.specs.Limits.{IsInAny, IsLimitOver};
 
 use crate::bags::Bags;
 use crate::label::Label;
+use crate::offer::is_no_later;
 use bumpalo::Bump;
-use flex_model::{NoMemory, Pair};
+use flex_model::{Deadline, Moment, NoMemory, Pair};
 use std::alloc::Global;
 use std::marker::Model;
 
@@ -49,6 +51,44 @@ fn any_bag_keeps(bags: &Bags<'_>, pair: &Pair) -> bool
     false
 }
 
+// The lesser one of the limit and the pair's arrival, if it is booked no earlier and walks no farther.
+fn limit_by(entry: &(Pair, &Label<'_>), deadline: Deadline, walk: u32, limit: Moment) -> Moment
+    ensures { IsLimitOver (λ other. other ≡ entry.now) deadline walk limit result }
+{
+    if limit <= entry.0.arrival {
+        return limit;
+    }
+    if walk < entry.0.walk {
+        return limit;
+    }
+    if is_no_later(deadline, entry.0.deadline) {
+        return entry.0.arrival;
+    }
+    limit
+}
+
+// The same for all pairs of a bag.
+fn limit_in(entries: &[(Pair, &Label<'_>)], deadline: Deadline, walk: u32, limit: Moment) -> Moment
+    ensures { IsLimitOver (λ entry. Contains entries.now entry) deadline walk limit result }
+{
+    let mut least = limit;
+    for entry in entries {
+        least = limit_by(entry, deadline, walk, least);
+    }
+    least
+}
+
+// The same for all pairs of the bags.
+fn limit_over(bags: &Bags<'_>, deadline: Deadline, walk: u32, limit: Moment) -> Moment
+    ensures { IsLimitOver (IsInAny bags.now) deadline walk limit result }
+{
+    let mut least = limit;
+    for t in 0..bags.width() {
+        least = limit_in(bags.labels(t), deadline, walk, least);
+    }
+    least
+}
+
 impl<'a> Ends<'a> {
     pub(crate) fn new(bump: &'a Bump<Global>) -> Ends<'a>
         ensures { result ≡ [] }
@@ -85,6 +125,14 @@ impl<'a> Ends<'a> {
         let last = self.bags.width() - 1;
         self.bags.offer(last, pair, label)?;
         Ok(())
+    }
+
+    /// The lesser one of the limit and the least arrival of the pairs that are booked no earlier than the deadline and walk
+    /// no farther.
+    pub(crate) fn limit_for(&self, deadline: Deadline, walk: u32, limit: Moment) -> Moment
+        ensures { IsLimitOver (IsInAny self.now) deadline walk limit result }
+    {
+        limit_over(&self.bags, deadline, walk, limit)
     }
 
     /// How many numbers of transfers there are.

@@ -3,12 +3,14 @@
 ghost use Rattle.std.specs.Prelude.{◌≡◌, IfOk};
 ghost use Rattle.round_engine.specs.Chain.{deadline_up_to};
 ghost use Rattle.round_engine.specs.Made.{IsMade, made_pair};
+ghost use Rattle.round_engine.specs.Ridden.{carried_to};
 ghost use Rattle.flex_model.specs.Deadline.{lesser};
 
 use crate::boarding::Boarding;
 use crate::offer::Offer;
 use bumpalo::Bump;
 use flex_model::{Deadline, NoMemory, Pair, Place, Ride, Triple};
+use ride_index::Carried;
 use std::alloc::Global;
 
 /// One can be at the place at the pair's arrival, if all rides are booked by the pair's deadline. The ride is the last
@@ -44,6 +46,26 @@ pub(crate) fn earlier(a: Deadline, b: Deadline) -> Deadline
         (Deadline::Never, other) => other,
         (Deadline::At(first), Deadline::Never) => Deadline::At(first),
         (Deadline::At(first), Deadline::At(second)) => Deadline::At(first.min(second)),
+    }
+}
+
+// Until when the rides up to the boarding can be booked.
+fn deadline_so_far(boarding: &Boarding<'_>) -> Deadline
+    ensures { result ≡ deadline_up_to boarding.now.parent }
+{
+    match boarding.parent {
+        Some(parent) => parent.pair.deadline,
+        None => Deadline::Never,
+    }
+}
+
+/// What is carried to the boarding.
+pub(crate) fn carried_by(boarding: &Boarding<'_>) -> Carried
+    ensures { result ≡ carried_to boarding.now }
+{
+    Carried {
+        deadline: deadline_so_far(boarding),
+        walk: boarding.walk,
     }
 }
 

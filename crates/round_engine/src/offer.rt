@@ -3,11 +3,9 @@
 ghost use Rattle.std.specs.Prelude.{◌≡◌, ◌↔◌, ◌≤ℤ◌, ◌+ℤ◌, ◌*◌, IsTrue, pos};
 ghost use Rattle.flex_model.specs.Deadline.{IsNoLater, lesser};
 ghost use Rattle.booking_rules.specs.Departures.{later as deadline_after};
-ghost use Rattle.round_engine.specs.Attained.{IsSoundTask};
 ghost use Rattle.round_engine.specs.Offers.{IsModest, IsModestDeadline, nth_offer, wanted_from};
 
 use crate::label::earlier;
-use crate::moments::limit_of;
 use crate::task::Task;
 use flex_model::{Deadline, Moment, Place, Ride};
 use ride_index::{ActiveDays, OfferedRun, Wanted};
@@ -21,15 +19,15 @@ pub(crate) struct Offer {
     pub(crate) deadline: Deadline,
 }
 
-/// The rides that are wanted from the place, where one can be at the moment.
+/// The rides that are wanted from the place, where one can be at the moment, by the limit.
 pub(crate) fn wanted_at<'s>(
     task: &Task<'s>,
     active: &'s ActiveDays,
     place: Place,
     earliest: Moment,
+    limit: Moment,
 ) -> Wanted<'s>
-    requires task { IsSoundTask task.now }
-    ensures { result ≡ wanted_from task.now active.entry place earliest }
+    ensures { result ≡ wanted_from task.now active.entry place earliest limit }
 {
     Wanted {
         feed: task.feed,
@@ -40,7 +38,7 @@ pub(crate) fn wanted_at<'s>(
         destination: task.query.destination,
         place,
         earliest,
-        limit: limit_of(task.query),
+        limit,
     }
 }
 

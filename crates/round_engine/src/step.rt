@@ -4,9 +4,11 @@ ghost use Rattle.std.specs.Prelude.{◌≡◌, ◌<◌, ◌+◌, ℕ, All, Conta
 ghost use Rattle.flex_model.specs.declared.moment.Deadline.{Deadline};
 ghost use Rattle.flex_model.specs.declared.ride.Ride.{Ride};
 ghost use Rattle.flex_model.specs.Deadline.{IsNoLater, lesser};
+ghost use Rattle.flex_model.specs.Journey.{limit};
 ghost use Rattle.round_engine.specs.Attained.{AreEnds, IsBoarding, IsEndKept, IsEndOf, IsHeldNow, IsInTime, IsLabel, IsOfferFrom, IsRoundState, IsSoundTask, IsStep, number_of};
 ghost use Rattle.round_engine.specs.Bags.{BagsGrow, GainsAtLast, IsKeptByAny};
 ghost use Rattle.round_engine.specs.Chain.{deadline_up_to};
+ghost use Rattle.round_engine.specs.Limits.{IsInAny, IsLimitOver};
 ghost use Rattle.round_engine.specs.Made.{made_pair};
 ghost use Rattle.round_engine.specs.Ridden.{AreRidden};
 ghost use Rattle.round_engine.specs.declared.boarding.Boarding.{Boarding};
@@ -18,14 +20,14 @@ ghost use Rattle.ride_index.specs.declared.offered_run.OfferedRun.{OfferedRun};
 use crate::bags::{Bags, any_keeps};
 use crate::boarding::Boarding;
 use crate::ends::Ends;
-use crate::label::{Label, deadline_with, label_after, pair_after};
+use crate::label::{Label, carried_by, deadline_with, label_after, pair_after};
 use crate::moments::{counted_walk, later, limit_of};
 use crate::offer::{Offer, is_no_later, offer_at, wanted_at};
 use crate::places::number_in;
 use crate::task::{Lookups, Task};
 use bumpalo::Bump;
-use flex_model::{NoMemory, Pair};
-use ride_index::{OfferedRun, offers_from};
+use flex_model::{Moment, NoMemory, Pair};
+use ride_index::{Boarded, Carried, OfferedRun, offers_after};
 use std::alloc::Global;
 use transfers::egress;
 
@@ -178,6 +180,19 @@ fn take_all<'a>(
     Ok(())
 }
 
+// So many notes there are on which trips were boarded in a round. Fewer only cost time.
+const NOTES: usize = 16_384;
+
+// By when a ride from the boarding has to arrive so that no end covers what it makes: the query's limit, or the arrival of an
+// end with no earlier a deadline and no longer a walk.
+fn limit_after(task: &Task<'_>, ends: &Ends<'_>, carried: &Carried) -> Moment
+    requires task { IsSoundTask task.now }
+    ensures { IsLimitOver (IsInAny ends.now) carried.now.deadline carried.now.walk
+        (limit task.now.query.now) result }
+{
+    ends.limit_for(carried.deadline, carried.walk, limit_of(task.query))
+}
+
 /// Takes the rides after the boardings into the round.
 pub(crate) fn ride_on<'a, 's>(
     alloc: Global,
@@ -199,9 +214,25 @@ pub(crate) fn ride_on<'a, 's>(
         (All (AreRidden task.now earlier.now round.new ends.new) boardings.now) }
 {
     let mut runs = Vec::new(alloc);
+    let mut boarded = Boarded::new(alloc, NOTES)?;
     for boarding in boardings {
-        let wanted = wanted_at(task, lookups.active, boarding.place, boarding.earliest);
-        offers_from(alloc, lookups.index, &wanted, &mut runs)?;
+        let carried = carried_by(boarding);
+        let limit = limit_after(task, ends, &carried);
+        let wanted = wanted_at(
+            task,
+            lookups.active,
+            boarding.place,
+            boarding.earliest,
+            limit,
+        );
+        offers_after(
+            alloc,
+            lookups.index,
+            &wanted,
+            &carried,
+            &mut boarded,
+            &mut runs,
+        )?;
         take_all(bump, task, earlier, round, ends, boarding, runs.as_slice())?;
     }
     Ok(())

@@ -1,7 +1,6 @@
--- Each wanted ride is one of the four sorts.
-use Rattle.ride_index.proofs.FromPlace.{all_offers}
+-- Nothing was boarded before.
+use Rattle.ride_index.proofs.NeededOffers.{none_before}
 use Rattle.ride_index.proofs.place_offers.offers_from.Goals as goal
 
 pub returns : goal.returns
-returns c =
-    all_offers c.args.wanted.now c.requires.wanted _ _ _ _ _ c.clear.ensures.items c.in_ok-add_timed_offers.ensures c.in_ok-add_stop_offers.ensures c.in_ok-add_group_offers.ensures c.in_ok-add_zone_offers.ensures
+returns c = none_before c.args.wanted.now c.in_ok-boarded.boarded.0 _ c.offers_after.new.into.items c.in_ok-boarded.ensures.none c.in_ok-offers_after.ensures.offers
