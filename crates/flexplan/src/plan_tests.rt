@@ -419,13 +419,16 @@ fn walking_counts_where_it_is_asked_for(rt: HostRuntime) -> Result<(), Fail> {
         "query q1 2 walking\njourney 2025-06-03T17:00:00Z 2025-06-04T09:00:00Z 0 0\n{on_call}\
          journey never 2025-06-04T09:00:00Z 1 1500\n{first}{second}"
     )?;
-    assert_asked(&rt, alloc, &mut changed_files(alloc)?, WALKING, longer.as_str())?;
+    assert_asked(
+        &rt,
+        alloc,
+        &mut changed_files(alloc)?,
+        WALKING,
+        longer.as_str(),
+    )?;
     // One may also walk from N.
     let mut files = changed_files(alloc)?;
-    files.add(
-        "t/walks.txt",
-        b"from_id,to_id,seconds\nQ,D,1200\nN,D,600\n",
-    )?;
+    files.add("t/walks.txt", b"from_id,to_id,seconds\nQ,D,1200\nN,D,600\n")?;
     let both = format!(in alloc;
         "query q1 2 walking\njourney never 2025-06-04T08:30:00Z 0 600\n{first}\
          journey 2025-06-03T17:00:00Z 2025-06-04T09:00:00Z 0 0\n{on_call}"
