@@ -15,11 +15,12 @@ use Rattle.flex_model.specs.ServiceDay.{BeginsAt}
 use Rattle.flex_model.specs.SoundFeed.{IsSoundFeed}
 use Rattle.flex_model.proofs.Found.{Contains-at, slice_get_unique}
 use Rattle.fixed_trips.specs.Timed.{MayRun}
-use Rattle.ride_index.specs.Boarded.{AreFreeAfter, CanBoard, GainsBut, IsAsGood, IsBoardedBefore, IsNeedless}
+use Rattle.ride_index.specs.Boarded.{AreFreeAfter, CanBoard, GainsBut, IsAsGood, IsBoardedAt, IsNeedless, IsNoted}
 use Rattle.ride_index.specs.Departures.{IsTimedDeparture}
 use Rattle.ride_index.specs.TimedRides.{IsAlighting, IsRideWith, boarded_with, left_at}
 use Rattle.ride_index.specs.declared.boarded.BoardingPoint.{BoardingPoint}
 use Rattle.ride_index.specs.declared.boarded.Carried.{Carried}
+use Rattle.ride_index.specs.declared.boarded.Note.{Note}
 use Rattle.ride_index.specs.declared.departure.Departure.{Departure}
 use Rattle.ride_index.proofs.RideLists.{Gained}
 use Rattle.ride_index.proofs.StartedRides.{of_alighting, to_alighting}
@@ -67,18 +68,18 @@ free_not_booked w rule e f = (let g : Free ≡ Book rule = sym e ∙ f in cc)
 
 module _ (feed : Feed) (days : DayTable) (trip : Trip) (departure : Departure) (day base zero limit : ℤ) (points : List BoardingPoint) (carried : Carried)
     (sound : IsSoundFeed feed) (is : IsTimedDeparture feed trip departure) (begins : BeginsAt days day base) (counts : zero ≡ base +ℤ shift trip None)
-    (may_run : MayRun feed days trip day None) (before : IsBoardedBefore trip.rows departure.row zero points carried) where
+    (may_run : MayRun feed days trip day None) (number : ℕ) (notes : List Note) (before : IsNoted (points, notes) number trip.rows departure.row zero carried) where
   abbrev pub earlier_departure : Departure
-  earlier_departure = record { named = before.boards.stop; departs = before.boards.departs; trip = departure.trip; row = before.at }
+  earlier_departure = record { named = before.boarded_at.boards.stop; departs = before.boarded_at.boards.departs; trip = departure.trip; row = before.note.row }
 
   is_earlier : IsTimedDeparture feed trip earlier_departure
   is_earlier = record {
     of_trip = is.of_trip;
-    row = before.row;
-    at_row = before.at_row;
-    at_stop = before.boards.at_stop;
-    timed = before.boards.timed;
-    picks_up = λ e. free_not_no (sym before.boards.free ∙ e);
+    row = before.boarded_at.row;
+    at_row = before.boarded_at.at_row;
+    at_stop = before.boarded_at.boards.at_stop;
+    timed = before.boarded_at.boards.timed;
+    picks_up = λ e. free_not_no (sym before.boarded_at.boards.free ∙ e);
   }
 
   pub needless : (times : Times) (ride : Ride) → IsRideWith feed times days departure day None limit ride → IsNeedless feed times days points carried ride
@@ -86,7 +87,7 @@ module _ (feed : Feed) (days : DayTable) (trip : Trip) (departure : Departure) (
       let d = earlier_departure in
       let a : IsAlighting trip.rows (boarded_with departure day None (zero +ℤ pos departure.departs)) zero limit ride =
       to_alighting feed days trip departure day base zero limit None sound is begins counts may_run times ride w in
-      let early = before.early in
+      let early = before.boarded_at.early in
       let later = a.later in
       let then : ride.arrives ≡ zero +ℤ pos a.alights.arrives = ap (λ r. r.arrives) a.alights.is in
       let other : Ride = left_at (boarded_with d day None (zero +ℤ pos d.departs)) ride.to_row a.alights.stop (zero +ℤ pos a.alights.arrives) in
@@ -100,22 +101,22 @@ module _ (feed : Feed) (days : DayTable) (trip : Trip) (departure : Departure) (
       let v = of_alighting feed days trip d day base zero limit None sound is_earlier begins counts may_run times other b in
       record {
         point = before.point;
-        among = before.among;
-        as_good = before.as_good;
+        among = Contains-at points before.note.point before.point before.is_point;
+        as_good = before.boarded_at.as_good;
         other = other;
         permitted = v.permitted;
-        boards = sym before.boards.at_place;
-        leaves = before.boards.leaves;
+        boards = sym before.boarded_at.boards.at_place;
+        leaves = before.boarded_at.boards.leaves;
         alights = sym (ap (λ r. r.alight) a.alights.is);
         arrives = sym then;
         free = λ rule booking.
             let t : booking.0 ≡ trip = slice_get_unique feed.trips departure.trip booking.0 trip booking.2 is.of_trip in
             elim booking.3 [
               | inl boards ↦ (
-                  let r : booking.1 ≡ before.row =
-                  slice_get_unique trip.rows before.at booking.1 before.row (subst (λ x. slice_get x.rows before.at ≡ Some booking.1) t boards.0) before.at_row in
-                  free_not_booked before.row.pickup rule before.boards.free (subst (λ x. x.pickup ≡ Book rule) r boards.1))
-              | inr alights ↦ before.free ride.to_row booking.1 rule later (subst (λ x. slice_get x.rows ride.to_row ≡ Some booking.1) t alights.0) alights.1
+                  let r : booking.1 ≡ before.boarded_at.row =
+                  slice_get_unique trip.rows before.note.row booking.1 before.boarded_at.row (subst (λ x. slice_get x.rows before.note.row ≡ Some booking.1) t boards.0) before.boarded_at.at_row in
+                  free_not_booked before.boarded_at.row.pickup rule before.boarded_at.boards.free (subst (λ x. x.pickup ≡ Book rule) r boards.1))
+              | inr alights ↦ before.boarded_at.free ride.to_row booking.1 rule later (subst (λ x. slice_get x.rows ride.to_row ≡ Some booking.1) t alights.0) alights.1
             ];
       }
 
@@ -142,16 +143,12 @@ all_free rows r n size so_far at row rule past found booked =
     let within = slice_get_within rows at row found in
     so_far at row rule past (omega (arith, within, size)) found booked
 
--- what a note says is so
-pub boarded_before : (rows : List Row) (r at number : ℕ) (row : Row) (from zero : ℤ) (points : List BoardingPoint) (carried : Carried) (point : BoardingPoint) → from ≡ zero
-    → slice_get points number ≡ Some point → IsAsGood point.carried carried → at ≤ r → slice_get rows at ≡ Some row → CanBoard row from point → AreFreeAfter rows r
-    → IsBoardedBefore rows r zero points carried
-boarded_before rows r at number row from zero points carried point same found as_good early at_row boards free = record {
-  point = point;
-  among = Contains-at points number point found;
-  as_good = as_good;
-  at = at;
+-- what the code tests
+pub boarded_at : (rows : List Row) (at r : ℕ) (row : Row) (from zero : ℤ) (point : BoardingPoint) (carried : Carried) → from ≡ zero → at ≤ r → IsAsGood point.carried carried
+    → slice_get rows at ≡ Some row → CanBoard row from point → AreFreeAfter rows r → IsBoardedAt rows at r zero point carried
+boarded_at rows at r row from zero point carried same early as_good at_row boards free = record {
   early = early;
+  as_good = as_good;
   row = row;
   at_row = at_row;
   boards = subst (λ z. CanBoard row z point) same boards;

@@ -19,6 +19,7 @@ use Rattle.flex_model.specs.Deadline.{IsNoLater}
 use Rattle.flex_model.specs.Ride.{IsPermittedRide}
 use Rattle.ride_index.specs.declared.boarded.BoardingPoint.{BoardingPoint}
 use Rattle.ride_index.specs.declared.boarded.Carried.{Carried}
+use Rattle.ride_index.specs.declared.boarded.Note.{Note}
 use Rattle.ride_index.specs.declared.offered_run.OfferedRun.{OfferedRun}
 use Rattle.ride_index.specs.declared.wanted.Wanted.{Wanted}
 use Rattle.ride_index.specs.OfferedRuns.{IsCovered, IsWantedRide, nth_deadline, nth_ride}
@@ -44,19 +45,25 @@ abbrev pub AreFreeAfter : List Row → ℕ → Type 0
 AreFreeAfter rows r = (at : ℕ) (row : Row) (rule : Option ℕ) → r < at
     → slice_get rows at ≡ Some row → row.drop_off ≡ Book rule → ⊥
 
--- A point that carries no less can be boarded at the record with this number or an earlier one, and
--- nothing has to be booked from there on.
-pub record IsBoardedBefore (rows : List Row) (r : ℕ) (zero : ℤ) (points : List BoardingPoint)
+-- The point carries no less, and can be boarded at the one record, which is no later than the other.
+-- Nothing has to be booked from there on.
+pub record IsBoardedAt (rows : List Row) (at r : ℕ) (zero : ℤ) (point : BoardingPoint)
     (carried : Carried) : Type 0 where
-  pub point : BoardingPoint
-  pub among : Contains points point
-  pub as_good : IsAsGood point.carried carried
-  pub at : ℕ
   pub early : at ≤ r
+  pub as_good : IsAsGood point.carried carried
   pub row : Row
   pub at_row : slice_get rows at ≡ Some row
   pub boards : CanBoard row zero point
   pub free : AreFreeAfter rows r
+
+-- The note with this number tells such a point and record.
+pub record IsNoted (boarded : List BoardingPoint × List Note) (number : ℕ) (rows : List Row) (r : ℕ)
+    (zero : ℤ) (carried : Carried) : Type 0 where
+  pub note : Note
+  pub is_note : slice_get boarded.1 number ≡ Some note
+  pub point : BoardingPoint
+  pub is_point : slice_get boarded.0 note.point ≡ Some point
+  pub boarded_at : IsBoardedAt rows note.row r zero point carried
 
 -- A point that carries no less has a ride without a booking that alights at the same place and moment.
 pub record IsNeedless (feed : Feed) (times : Times) (days : DayTable) (points : List BoardingPoint)

@@ -1,8 +1,8 @@
 // Boardings of a round whose rides are held.
 
-ghost use Rattle.std.specs.Prelude.{◌≡◌, ◌↔◌, ◌<◌, ◌++◌, ◌∷◌, [], ℕ, Option, IfOk, IsTrue, OnOk, Some, length, slice_get};
+ghost use Rattle.std.specs.Prelude.{◌≡◌, ◌↔◌, ◌<◌, ◌++◌, ◌∷◌, [], ℕ, Option, IfOk, IsTrue, OnOk, Some, false, length, slice_get};
 ghost use Rattle.flex_model.specs.declared.trip.Way.TheVariants.{Book};
-ghost use Rattle.ride_index.specs.Boarded.{AreFreeAfter, CanBoard, IsAsGood, IsBoardedBefore};
+ghost use Rattle.ride_index.specs.Boarded.{AreFreeAfter, CanBoard, IsAsGood, IsBoardedAt, IsNoted};
 ghost use Rattle.ride_index.specs.TimedRides.{IsZero};
 
 use crate::alightings::moment_after;
@@ -107,8 +107,34 @@ fn are_free_after(rows: &[Row], row: u32) -> bool
     true
 }
 
+// Whether the point carries no less, and can be boarded at the one record, which is no later than the other, with nothing to
+// be booked from there on.
+fn is_boarded(
+    point: &BoardingPoint,
+    at: u32,
+    carried: &Carried,
+    rows: &[Row],
+    row: u32,
+    zero: Moment,
+) -> bool
+    requires row { row < length rows.now }
+    requires zero { IsZero zero }
+    ensures { IsTrue result ↔ IsBoardedAt rows.now at row zero point.now carried.now }
+{
+    if row < at {
+        return false;
+    }
+    if !is_as_good(&point.carried, carried) {
+        return false;
+    }
+    if !can_board(&rows[at as usize], zero, point) {
+        return false;
+    }
+    are_free_after(rows, row)
+}
+
 // Which note is that of a trip and a day, where there are so many.
-fn place_of_note(trip: u32, day: i32, count: usize) -> usize
+fn number_among(trip: u32, day: i32, count: usize) -> usize
     ensures { 0 < count → result < count }
 {
     if count == 0 {
@@ -146,83 +172,82 @@ impl Boarded {
         Some(self.points[number])
     }
 
-    fn note(&self, at: usize) -> Option<Note>
-        ensures { result ≡ slice_get self.now.1 at }
+    fn note(&self, number: usize) -> Option<Note>
+        ensures { result ≡ slice_get self.now.1 number }
     {
-        if self.notes.len() <= at {
+        if self.notes.len() <= number {
             return None;
         }
-        Some(self.notes[at])
+        Some(self.notes[number])
     }
 
     // Puts the note in place of the one with this number.
-    fn put(&mut self, at: usize, note: Note)
+    fn put(&mut self, number: usize, note: Note)
         ensures points { self.new.0 ≡ self.old.0 }
-        ensures found { at < length self.old.1 → slice_get self.new.1 at ≡ Some note }
+        ensures found { number < length self.old.1 → slice_get self.new.1 number ≡ Some note }
     {
-        if self.notes.len() <= at {
+        if self.notes.len() <= number {
             return;
         }
-        self.notes[at] = note;
+        self.notes[number] = note;
     }
 
-    // Whether the note is of a point that carries no less, and can be boarded at this record or an earlier one, with nothing to
-    // be booked.
+    // Whether the note with this number tells that nothing new is reached from the record.
     fn has_boarded(
         &self,
+        number: usize,
         carried: &Carried,
         rows: &[Row],
         row: u32,
         zero: Moment,
-        at: usize,
     ) -> bool
         requires row { row < length rows.now }
         requires zero { IsZero zero }
-        ensures { IsTrue result → IsBoardedBefore rows.now row zero self.now.0 carried.now }
+        ensures { IsTrue result ↔ IsNoted self.now number rows.now row zero carried.now }
     {
-        let Some(note) = self.note(at) else {
+        let Some(note) = self.note(number) else {
             return false;
         };
         let Some(point) = self.point(note.point) else {
             return false;
         };
-        if row < note.row {
-            return false;
-        }
-        if !is_as_good(&point.carried, carried) {
-            return false;
-        }
-        if !can_board(&rows[note.row as usize], zero, &point) {
-            return false;
-        }
-        are_free_after(rows, row)
+        is_boarded(&point, note.row, carried, rows, row, zero)
     }
 
-    /// Whether an earlier point that carries no less boards the trip on the day at the departure's record or before, with nothing
-    /// to be booked. If that isn't known, it is noted that the trip is boarded here.
+    /// Which note is that of the trip and the day.
+    pub(crate) fn number_of(&self, trip: u32, day: i32) -> usize
+        ensures { 0 < length self.now.1 → result < length self.now.1 }
+    {
+        number_among(trip, day, self.notes.len())
+    }
+
+    /// Whether the note with this number tells of an earlier point that carries no less, and that boards the trip at the
+    /// departure's record or before, with nothing to be booked. If not, it then tells that the trip is boarded here.
     pub(crate) fn skips(
         &mut self,
+        number: usize,
         carried: &Carried,
         rows: &[Row],
         departure: &Departure,
-        day: i32,
         zero: Moment,
     ) -> bool
         requires row { departure.now.row < length rows.now }
         requires zero { IsZero zero }
         ensures points { self.new.0 ≡ self.old.0 }
-        ensures boarded { IsTrue result
-            → IsBoardedBefore rows.now departure.now.row zero self.old.0 carried.now }
+        ensures noted { IsTrue result
+            ↔ IsNoted self.old number rows.now departure.now.row zero carried.now }
+        ensures notes { result ≡ false → number < length self.old.1
+            → slice_get self.new.1 number
+            ≡ Some (record { point = length self.old.0; row = departure.now.row }) }
     {
-        let at = place_of_note(departure.trip, day, self.notes.len());
-        if self.has_boarded(carried, rows, departure.row, zero, at) {
+        if self.has_boarded(number, carried, rows, departure.row, zero) {
             return true;
         }
         let note = Note {
             point: self.points.len(),
             row: departure.row,
         };
-        self.put(at, note);
+        self.put(number, note);
         false
     }
 }

@@ -159,7 +159,8 @@ pub(crate) fn add_needed_rides(
         return Ok(());
     };
     let zero = zero_of(base, trip, None);
-    if boarded.skips(carried, trip.rows.as_slice(), departure, day, zero) {
+    let number = boarded.number_of(departure.trip, day);
+    if boarded.skips(number, carried, trip.rows.as_slice(), departure, zero) {
         return Ok(());
     }
     add_started(feed, days, trip, departure, day, base, None, limit, found)?;

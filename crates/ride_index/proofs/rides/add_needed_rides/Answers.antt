@@ -5,7 +5,7 @@ use Rattle.std.proofs.lemmas.Option.{slice_get_within}
 use Rattle.flex_model.specs.Ride.{shift}
 use Rattle.flex_model.specs.ServiceDay.{BeginsAt}
 use Rattle.service_days.specs.Running.{IsRunning}
-use Rattle.ride_index.specs.Boarded.{IsBoardedBefore, IsNeedless}
+use Rattle.ride_index.specs.Boarded.{IsNoted, IsNeedless}
 use Rattle.ride_index.specs.TimedRides.{IsRideWith}
 use Rattle.ride_index.proofs.RideLists.{Gained, gained_none}
 use Rattle.ride_index.proofs.NeededRides.{but_gained, but_none, needless}
@@ -46,11 +46,11 @@ returns-then-skips-clause-rides c = λ times.
     let zero : to_z w64 (of_z w64 c.zero_of-zero.result) ≡ c.zero_of-zero.result = to_z-of_z w64 c.zero_of-zero.result (record { sfits = c.zero_of-zero.type_inv }) in
     let runs = c.in-Some.ensures.running in
     let before =
-    subst (λ z. IsBoardedBefore trip.rows departure.row z points carried) zero
-    (subst (λ rows. IsBoardedBefore rows departure.row (to_z w64 (of_z w64 c.zero_of-zero.result)) points carried) c.as_slice.ensures (c.skips.ensures.boarded c.if-skips.true)) in
+    subst (λ z. IsNoted c.args.boarded.now c.number_of-number.result trip.rows departure.row z carried) zero
+    (subst (λ rows. IsNoted c.args.boarded.now c.number_of-number.result rows departure.row (to_z w64 (of_z w64 c.zero_of-zero.result)) carried) c.as_slice.ensures (c.skips.ensures.noted.0 c.if-skips.true)) in
     but_none (IsRideWith feed times days departure c.args.day None c.args.limit) (IsNeedless feed times days points carried) c.args.found.now.items
     (λ x w. needless feed days trip departure day' c.in-Some.base c.zero_of-zero.result c.args.limit points carried c.requires.feed of.0 c.in-Some.ensures.begins
-    (c.zero_of-zero.ensures.value ∙ ap (λ b. b +ℤ shift trip None) base) (record { on_travel_day = runs.on_travel_day; runs = runs.runs; starts = of.1 }) before times x
+    (c.zero_of-zero.ensures.value ∙ ap (λ b. b +ℤ shift trip None) base) (record { on_travel_day = runs.on_travel_day; runs = runs.runs; starts = of.1 }) c.number_of-number.result c.args.boarded.now.1 before times x
     (subst (λ d. IsRideWith feed times days departure d None c.args.limit x) (sym day) w))
 
 pub add_started-requires-clause-departure : goal.add_started-requires-clause-departure

@@ -1,16 +1,28 @@
--- What the note says is tested.
-use Rattle.std.proofs.Common.{◌≡◌, ◌<◌, w64, to_z, of_z, length, sym, ◌∙◌, arith}
+-- What the note tells is tested.
+use Rattle.std.proofs.Common.{◌≡◌, w64, to_z, of_z, Some, slice_get, sym, ◌∙◌, subst}
 use Rattle.std.proofs.lemmas.Int.{to_z-of_z}
-use Rattle.std.proofs.lemmas.Option.{slice_get-get_or}
-use Rattle.ride_index.proofs.NeededRides.{boarded_before}
+use Rattle.std.proofs.lemmas.Option.{same_Some}
+use Rattle.ride_index.specs.Boarded.{IsBoardedAt}
 use Rattle.ride_index.proofs.boarded.Boarded.has_boarded.Goals as goal
 
 pub returns : goal.returns
-returns c = λ free.
+returns c =
     let rows = c.args.rows.now in
+    let carried = c.args.carried.now in
     let note = c.in-Some.note in
-    let zero : to_z w64 (of_z w64 c.args.zero) ≡ c.args.zero = to_z-of_z w64 c.args.zero c.ranges.zero in
-    let within : note.row < length rows = omega (arith, c.if-row-note.false, c.requires.row) in
-    boarded_before rows c.args.row note.row note.point _ (to_z w64 (of_z w64 c.args.zero)) c.args.zero c.args.self.now.0 c.args.carried.now c.in-Some-point.point zero
-    (sym c.point.ensures ∙ c.in-Some-point.is) (c.is_as_good.ensures.0 c.if-not-is_as_good.false) (omega (arith, c.if-row-note.false))
-    (slice_get-get_or rows note.row _ within) (c.can_board.ensures.0 c.if-not-can_board.false) (c.are_free_after.ensures.0 free)
+    let point = c.in-Some-point.point in
+    let zero : to_z w64 (of_z w64 c.args.zero) ≡ c.args.zero = to_z-of_z w64 c.args.zero c.ranges.zero in (
+      λ e. record {
+        note = note;
+        is_note = sym c.note.ensures ∙ c.in-Some.is;
+        point = point;
+        is_point = sym c.point.ensures ∙ c.in-Some-point.is;
+        boarded_at = subst (λ z. IsBoardedAt rows note.row c.args.row z point carried) zero (c.is_boarded.ensures.0 e);
+      },
+      λ h.
+          let same = same_Some h.note note (sym h.is_note ∙ sym c.note.ensures ∙ c.in-Some.is) in
+          let same_point = same_Some h.point point (sym h.is_point ∙ subst (λ n. slice_get c.args.self.now.0 n.point ≡ Some point) (sym same) (sym c.point.ensures ∙ c.in-Some-point.is)) in
+          c.is_boarded.ensures.1 (subst (λ z. IsBoardedAt rows note.row c.args.row z point carried) (sym zero)
+          (subst (λ p. IsBoardedAt rows note.row c.args.row c.args.zero p carried) same_point
+          (subst (λ n. IsBoardedAt rows n.row c.args.row c.args.zero h.point carried) same h.boarded_at))),
+    )
