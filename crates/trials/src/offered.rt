@@ -217,7 +217,7 @@ fn assert_offers(
 // How many runs are offered at M in the morning once M was boarded with the one walk and is boarded with the other.
 fn offered_again(alloc: Global, before: u32, walk: u32) -> Result<usize, Fail> {
     let feed = read_feed(alloc, &ONCE)?;
-    let times = read_times(alloc, &feed, &[])?;
+    let times = read_times(alloc, &feed, &[UTC])?;
     let days = june_days(alloc)?;
     let index = RideIndex::build(alloc, &feed)?;
     let active = ActiveDays::build(alloc, &feed, &days)?;
