@@ -1,6 +1,7 @@
 -- The labels of a part in one list are those of its table.
-use Rattle.std.proofs.Common.{◌≡◌, ◌⊎◌, inl, inr, ℕ, zero, suc, ◌+◌, ◌<◌, ◌≤◌, List, [], ◌∷◌, ◌++◌, Some, None, Contains, length, map, slice_get, option_map, take, refl, sym, ◌∙◌, ap, subst, arith}
-use Rattle.std.proofs.lemmas.List.{append-nil, append_assoc}
+use Rattle.std.proofs.Common.{◌≡◌, ◌⊎◌, inl, inr, ℕ, zero, suc, ◌+◌, ◌<◌, ◌≤◌, List, [], ◌∷◌, ◌++◌, Some, None, Contains, get_or, length, map, slice_get, option_map, take, refl, sym, ◌∙◌, ap, subst, arith}
+use Rattle.std.proofs.Math.Seq.{take-suc}
+use Rattle.std.proofs.lemmas.List.{append-nil, append_assoc, length-take-le}
 use Rattle.std.proofs.lemmas.List.Elements.{Contains-append_cases, Contains-append_left, Contains-append_right}
 use Rattle.std.proofs.lemmas.Option.{none-some, same_Some, slice_get-map}
 use Rattle.bound_cert.specs.declared.cert.CertLabel.{CertLabel}
@@ -117,3 +118,23 @@ labels_more k (first ∷ rounds) round =
     ap (λ xs. map (in_round k) first.labels ++ xs) (labels_more (k + 1) rounds round)
     ∙ sym (append_assoc (map (in_round k) first.labels) (labels_from (k + 1) rounds) (map (in_round ((k + 1) + length rounds)) round.labels))
     ∙ ap (λ n. (map (in_round k) first.labels ++ labels_from (k + 1) rounds) ++ map (in_round n) round.labels) e
+
+-- the labels of one round more are added
+pub labels_next : (rounds : List CertRound) (i : ℕ) (round : CertRound) → i < length rounds → round ≡ get_or rounds i round
+    → (old new : List RoundLabel) → old ≡ labels_from 1 (take i rounds) → new ≡ old ++ map (in_round (i + 1)) round.labels
+    → new ≡ labels_from 1 (take (i + 1) rounds)
+labels_next rounds i round lt is old new e f =
+    let few : length (take i rounds) ≡ i = length-take-le i rounds (omega arith) in
+    let number : 1 + length (take i rounds) ≡ i + 1 = omega arith in
+    let next : i + 1 ≡ suc i = omega arith in
+    f ∙ ap (λ xs. xs ++ map (in_round (i + 1)) round.labels) e
+    ∙ ap (λ n. labels_from 1 (take i rounds) ++ map (in_round n) round.labels) (sym number)
+    ∙ sym (labels_more 1 (take i rounds) round)
+    ∙ ap (λ r. labels_from 1 (take i rounds ++ r ∷ [])) is
+    ∙ ap (labels_from 1) (sym (take-suc rounds i round lt))
+    ∙ ap (λ n. labels_from 1 (take n rounds)) (sym next)
+
+pub labels_none : (rounds : List CertRound) → [] ≡ labels_from 1 (take 0 rounds)
+unfolding labels_from
+labels_none [] = refl
+labels_none (round ∷ rounds) = refl

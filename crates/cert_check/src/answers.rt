@@ -20,7 +20,7 @@ fn flaw_of(task: &Task<'_>, answer: &Answer) -> Option<JourneyFlaw>
 {
     let rides = answer.rides.as_slice();
     match judge_journey(task.feed, task.times, task.days, task.query, rides) {
-        Ok(_) => None,
+        Ok(_triple) => None,
         Err(flaw) => Some(flaw),
     }
 }
@@ -42,6 +42,13 @@ pub(crate) fn flawed_journey(task: &Task<'_>) -> Option<Reason>
     None
 }
 
+// Whether the two are one triple.
+fn is_same(a: &Triple, b: &Triple) -> bool
+    ensures { IsTrue result ↔ (a.now ≡ b.now) }
+{
+    a == b
+}
+
 // The triple of the rides of the answer, where that is not the answer's own.
 fn real_triple(task: &Task<'_>, answer: &Answer) -> Option<Triple>
     requires task { IsSoundTask task.now }
@@ -50,13 +57,9 @@ fn real_triple(task: &Task<'_>, answer: &Answer) -> Option<Triple>
     ensures { IsRealTriple task.now answer.now result }
 {
     let rides = answer.rides.as_slice();
-    let Ok(real) = judge_journey(task.feed, task.times, task.days, task.query, rides) else {
-        return None;
-    };
-    if real == answer.triple {
-        None
-    } else {
-        Some(real)
+    match judge_journey(task.feed, task.times, task.days, task.query, rides) {
+        Ok(real) => { if is_same(&real, &answer.triple) { None } else { Some(real) } }
+        Err(_flaw) => None,
     }
 }
 

@@ -1,0 +1,10 @@
+use Rattle.cert_check.proofs.LabelTables.{labels_next, labels_none}
+use Rattle.cert_check.proofs.labels.labels_of.Goals as goal
+
+pub loop-i-init : goal.loop-i-init
+loop-i-init c = labels_none c.args.rounds.now
+
+pub loop-i-preserved : goal.loop-i-preserved
+loop-i-preserved c =
+    labels_next c.args.rounds.now c.loop-i.i c.index-rounds-i.result c.loop-i-test.true c.index-rounds-i.is
+    c.loop-i.labels.items c.add_round.new.into.items c.loop-i.invariant ?
