@@ -5,5 +5,6 @@ pub mod PlaceOrder
 pub mod ValidParts
 pub mod FirstReasons
 pub mod OfferSums
+pub mod FoundTests
 pub mod HeldRides
 pub mod WaysHeld

@@ -1,7 +1,8 @@
 -- Items of a list that are tried in the order of their numbers.
-use Rattle.std.proofs.Common.{◌≡◌, ◌⊎◌, inl, inr, ℕ, zero, suc, ◌+◌, ◌<◌, ◌≤◌, List, Option, Some, None, length, slice_get, refl, sym, ◌∙◌, ap, subst, arith}
+use Rattle.std.proofs.Common.{◌≡◌, ◌⊎◌, inl, inr, ℕ, zero, suc, ◌+◌, ◌<◌, ◌≤◌, List, Option, Some, None, get_or, length, slice_get, refl, sym, ◌∙◌, ap, subst, arith}
 use Rattle.std.proofs.lemmas.Bool.{cases_order}
-use Rattle.std.proofs.lemmas.Option.{slice_get_within}
+use Rattle.std.proofs.lemmas.List.{get_or_default}
+use Rattle.std.proofs.lemmas.Option.{get_or_from_slice_get, slice_get-get_or, slice_get_within}
 use Rattle.bound_cert.specs.declared.cert.CertPart.{CertPart}
 use Rattle.cert_check.specs.declared.reason.Reason.{Reason}
 use Rattle.flex_model.specs.declared.feed.Feed.{Feed}
@@ -20,6 +21,22 @@ number_within items (suc n) item is = (let lt = slice_get_within items n item is
 pub number_of_index : {A : Type 0} (items : List A) (i : ℕ) (item : A) → slice_get items i ≡ Some item → IsNumber items (i + 1) item
 number_of_index items i item is = (let e : suc i ≡ i + 1 = omega arith in subst (λ n. IsNumber items n item) e is)
 
+pub number_from_index : {A : Type 0} (items : List A) (i m : ℕ) (item : A) → m ≡ i + 1 → slice_get items i ≡ Some item → IsNumber items m item
+number_from_index items i m item e is = subst (λ n. IsNumber items n item) (sym e) (number_of_index items i item is)
+
+-- the item at an index, as code reads it
+pub item_read : {A : Type 0} (items : List A) (i : ℕ) (x d : A) → i < length items → x ≡ get_or items i d → slice_get items i ≡ Some x
+item_read items i x d lt is = slice_get-get_or items i d lt ∙ ap Some (sym is)
+
+-- what holds of the first items and the next one
+pub below_more_at : {A : Type 0} (P : A → Type 0) (xs : List A) (i : ℕ) (x dummy : A) → i < length xs → x ≡ get_or xs i dummy
+    → ((j : ℕ) (d : A) → j < i → P (get_or xs j d)) → P x → (j : ℕ) (d : A) → j < i + 1 → P (get_or xs j d)
+below_more_at P xs i x dummy lt is all here j d less = elim (cases_order j i) [
+  | inl same ↦ subst P (is ∙ get_or_default xs i dummy d lt ∙ ap (λ m. get_or xs m d) (sym same)) here
+  | inr (inl before) ↦ all j d before
+  | inr (inr after) ↦ absurd (omega arith)
+]
+
 pub index_of_number : {A : Type 0} (items : List A) (i : ℕ) (item : A) → IsNumber items (i + 1) item → slice_get items i ≡ Some item
 index_of_number items i item is = (let e : i + 1 ≡ suc i = omega arith in subst (λ n. IsNumber items n item) e is)
 
@@ -37,6 +54,9 @@ module _ {A : Type 0} (P : ℕ → A → Type 0) (items : List A) where
     | inr (inl before) ↦ all (suc m) item (omega arith) is
     | inr (inr after) ↦ absurd (omega arith)
   ]
+
+  pub all_to_read : (i : ℕ) (x d : A) → x ≡ get_or items i d → AllTo P items i → P (i + 1) x → AllTo P items (i + 1)
+  all_to_read i x d is all here = all_to_more i all (λ item at. subst (P (i + 1)) (is ∙ get_or_from_slice_get items i item d at) here)
 
   module _ (feed : Feed) (times : Times) (days : DayTable) (query : Query) (part : CertPart) (k : ℕ)
       (tests : (reason : Reason) → kind reason ≡ k → ((item : A) → IsNumber items (number reason) item → P (number reason) item)

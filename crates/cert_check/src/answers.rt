@@ -58,7 +58,13 @@ fn real_triple(task: &Task<'_>, answer: &Answer) -> Option<Triple>
 {
     let rides = answer.rides.as_slice();
     match judge_journey(task.feed, task.times, task.days, task.query, rides) {
-        Ok(real) => { if is_same(&real, &answer.triple) { None } else { Some(real) } }
+        Ok(real) => {
+            if is_same(&real, &answer.triple) {
+                None
+            } else {
+                Some(real)
+            }
+        }
         Err(_flaw) => None,
     }
 }

@@ -109,9 +109,8 @@ fn unheld_of_any(
     ensures { IsUnheldOfAny task.now boarded.now runs.now result }
 {
     for i in 0..runs.len() {
-        let ride = unheld_of(task, lookups, boarded, &runs[i]);
-        if ride.is_some() {
-            return ride;
+        if let Some(ride) = unheld_of(task, lookups, boarded, &runs[i]) {
+            return Some(ride);
         }
     }
     None

@@ -1,3 +1,5 @@
+use Rattle.std.proofs.Common.{◌+◌, ◌++◌, map, ◌∙◌, ap}
+use Rattle.cert_check.specs.Labels.{in_round}
 use Rattle.cert_check.proofs.LabelTables.{labels_next, labels_none}
 use Rattle.cert_check.proofs.labels.labels_of.Goals as goal
 
@@ -7,4 +9,5 @@ loop-i-init c = labels_none c.args.rounds.now
 pub loop-i-preserved : goal.loop-i-preserved
 loop-i-preserved c =
     labels_next c.args.rounds.now c.loop-i.i c.index-rounds-i.result c.loop-i-test.true c.index-rounds-i.is
-    c.loop-i.labels.items c.add_round.new.into.items c.loop-i.invariant ?
+    c.loop-i.labels.items c.add_round.new.into.items c.loop-i.invariant
+    (c.in_ok-add_round.ensures ∙ ap (λ xs. c.loop-i.labels.items ++ map (in_round (c.loop-i.i + 1)) xs) c.as_slice.ensures)
