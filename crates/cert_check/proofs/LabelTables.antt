@@ -1,13 +1,15 @@
 -- The labels of a part in one list are those of its table.
-use Rattle.std.proofs.Common.{◌≡◌, ◌⊎◌, inl, inr, ℕ, zero, suc, ◌+◌, ◌<◌, ◌≤◌, List, [], ◌∷◌, ◌++◌, Some, None, Contains, get_or, length, map, slice_get, option_map, take, refl, sym, ◌∙◌, ap, subst, arith}
+use Rattle.std.proofs.Common.{◌≡◌, ◌⊎◌, inl, inr, ℕ, zero, suc, ◌+◌, ◌<◌, ◌≤◌, pos, List, [], ◌∷◌, ◌++◌, Some, None, Contains, get_or, length, map, slice_get, option_map, take, refl, sym, ◌∙◌, ap, subst, arith}
 use Rattle.std.proofs.Math.Seq.{take-suc}
 use Rattle.std.proofs.lemmas.List.{append-nil, append_assoc, length-take-le}
 use Rattle.std.proofs.lemmas.List.Elements.{Contains-append_cases, Contains-append_left, Contains-append_right}
-use Rattle.std.proofs.lemmas.Option.{none-some, same_Some, slice_get-map}
+use Rattle.std.proofs.lemmas.Option.{none-some, same_Some, slice_get-get_or, slice_get-map}
 use Rattle.bound_cert.specs.declared.cert.CertLabel.{CertLabel}
 use Rattle.bound_cert.specs.declared.cert.CertPart.{CertPart}
 use Rattle.bound_cert.specs.declared.cert.CertRound.{CertRound}
 use Rattle.cert_check.specs.declared.labels.RoundLabel.{RoundLabel}
+use Rattle.flex_model.specs.declared.moment.Deadline.TheVariants.{At}
+use Rattle.flex_model.specs.declared.place.Place.TheVariants.{Stop}
 use Rattle.flex_model.specs.LabelTable.{IsInRound, Label}
 use Rattle.flex_model.proofs.Found.{Contains-at, found_in_map, index_of, none_contained}
 use Rattle.cert_check.specs.Labels.{in_round, label_of, labels_from, labels_of, table_of}
@@ -134,7 +136,18 @@ labels_next rounds i round lt is old new e f =
     ∙ ap (labels_from 1) (sym (take-suc rounds i round lt))
     ∙ ap (λ n. labels_from 1 (take n rounds)) (sym next)
 
-pub labels_none : (rounds : List CertRound) → [] ≡ labels_from 1 (take 0 rounds)
+pub labels_none : [] ≡ labels_from 1 []
 unfolding labels_from
-labels_none [] = refl
-labels_none (round ∷ rounds) = refl
+labels_none = refl
+
+-- what indexing past the end would give
+abbrev pub no_label : RoundLabel
+no_label = record { round = 0; label = record { place = Stop 0; deadline = At (pos 0); arrival = pos 0; walk = 0 } }
+
+-- a label of the list, as code reads it
+pub label_at : (part : CertPart) (labels : List RoundLabel) (i : ℕ) → labels ≡ labels_of part → i < length labels
+    → slice_get (labels_of part) i ≡ Some (get_or labels i no_label)
+label_at part labels i same lt = ap (λ xs. slice_get xs i) (sym same) ∙ slice_get-get_or labels i no_label lt
+
+pub round_at : (part : CertPart) (labels : List RoundLabel) (i : ℕ) → labels ≡ labels_of part → i < length labels → 0 < (get_or labels i no_label).round
+round_at part labels i same lt = round_some part (get_or labels i no_label) (Contains-at (labels_of part) i (get_or labels i no_label) (label_at part labels i same lt))

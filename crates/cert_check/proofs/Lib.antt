@@ -5,6 +5,7 @@ pub mod PlaceOrder
 pub mod ValidParts
 pub mod FirstReasons
 pub mod OfferSums
+pub mod EndsFound
 pub mod FoundTests
 pub mod HeldRides
 pub mod WaysHeld

@@ -1,0 +1,4 @@
+use Rattle.cert_check.proofs.ways.unheld_walk.Goals as goal
+
+pub loop-i-preserved : goal.loop-i-preserved
+loop-i-preserved c = ?
