@@ -21,7 +21,7 @@ use Rattle.flex_model.specs.LabelTable.{IsOnTheWay, LeadsTo, first_pair, next_pa
 use Rattle.flex_model.proofs.Certificates.{ride_forwards}
 use Rattle.cert_check.specs.Labels.{label_of}
 use Rattle.cert_check.specs.Tasks.{CanBeTaken, IsHeldIn, IsRideHeld, IsSoundTask, IsUnheldFrom, pair_after}
-use Rattle.cert_check.specs.Ways.{AreFirstHeld, AreNextHeld, IsFirstHeld, IsFirstUnheld, IsNextHeld, IsNextUnheld, IsUnheldAccess, IsUnheldChange}
+use Rattle.cert_check.specs.Ways.{AreFirstHeld, AreNextHeld, IsFirstHeld, IsFirstUnheld, IsNextHeld, IsNextUnheld, IsUnheldAccess, IsUnheldChange, IsUnheldFirst, IsUnheldNext, IsUnheldRule, IsUnheldWalk}
 
 -- ---- from the origin
 
@@ -144,3 +144,23 @@ too_late task sound label late ride deadline walk few way leads =
     let arrives : ride.arrives ≤ℤ limit task.query.now = way.arrives in
     let in_time : label.label.arrival ≤ℤ limit task.query.now = omega (arith, ints) in
     absurd (late in_time)
+
+-- ---- what the code finds
+
+pub first_of_walks : (task : Task) (walks : List Span) → ((span : Span) → Contains walks span ↔ (Contains task.times.now.walks span × (span.from ≡ task.query.now.origin)))
+    → AreFirstHeld task task.query.now.origin → (ride : Option Ride) → IsUnheldWalk task walks ride → IsUnheldFirst task ride
+first_of_walks task walks are here None there = all_first task walks are here there
+first_of_walks task walks are here (Some ride) of = of
+
+pub next_of_rules : (task : Task) (label : RoundLabel) (stop : ℕ) → label.label.place ≡ Stop stop → (rows : List ChangeRow)
+    → ((row : ChangeRow) → Contains rows row ↔ (Contains task.feed.now.changes row × (row.from ≡ stop)))
+    → AreNextHeld task label label.label.place → (ride : Option Ride) → IsUnheldRule task label rows ride → IsUnheldNext task label ride
+next_of_rules task label stop at rows are here None there = all_next task label stop at rows are here there
+next_of_rules task label stop at rows are here (Some ride) of = of
+
+-- what indexing past the end would give
+abbrev pub no_span : Span
+no_span = record { from = Stop 0; to = Stop 0; seconds = 0 }
+
+abbrev pub no_row : ChangeRow
+no_row = record { from = 0; to = 0; kind = Least 0 }
