@@ -1,6 +1,7 @@
 -- Rides that are held, and rides that are offered.
 use Rattle.std.proofs.Common.{◌≡◌, ◌⊎◌, ◌↔◌, inl, inr, ℕ, ◌+◌, ◌*◌, ◌<◌, ◌≤◌, ℤ, pos, ◌+ℤ◌, ◌≤ℤ◌, List, Option, Some, None, All, Contains, refl, sym, ◌∙◌, ap, subst, arith}
 use Rattle.std.specs.Borrow.{Bor}
+use Rattle.std.proofs.lemmas.Bool.{cases_lt, cases_order}
 use Rattle.std.proofs.lemmas.Int.{ints}
 use Rattle.std.proofs.lemmas.List.Elements.{All-contains}
 use Rattle.bound_cert.specs.declared.cert.CertPart.{CertPart}
@@ -12,6 +13,7 @@ use Rattle.flex_model.specs.declared.answer.Triple.{Triple}
 use Rattle.flex_model.specs.declared.moment.Deadline.{Deadline}
 use Rattle.flex_model.specs.declared.place.Place.{Place}
 use Rattle.flex_model.specs.declared.ride.Ride.{Ride}
+use Rattle.booking_rules.specs.Departures.{later}
 use Rattle.flex_model.specs.Booking.{IsDeadline}
 use Rattle.flex_model.specs.Deadline.{IsNoLater, lesser}
 use Rattle.flex_model.specs.Journey.{limit}
@@ -120,6 +122,37 @@ modest task sound place earliest run k can =
           (subst (IsDeadline task.feed.now task.days.now ride) e way.booked)).1 in
           omega (arith, ints);
     }
+
+-- the first rides of a run and one more are held
+pub one_more_held : (task : Task) (boarded : Boarded) (run : OfferedRun) (n : ℕ) → ((k : ℕ) → k < n → IsNthHeld task boarded run k)
+    → IsNthHeld task boarded run n → (k : ℕ) → k < n + 1 → IsNthHeld task boarded run k
+one_more_held task boarded run n all here k lt = elim (cases_order k n) [
+  | inl same ↦ subst (IsNthHeld task boarded run) (sym same) here
+  | inr (inl before) ↦ all k before
+  | inr (inr after) ↦ absurd (omega arith)
+]
+
+-- if no later ride of the run can be booked later, each one is held with the last of these
+pub rest_held : (task : Task) (boarded : Boarded) (run : OfferedRun) (n : ℕ) → ((k : ℕ) → k < n → IsNthHeld task boarded run k)
+    → IsNthHeld task boarded run n
+    → IsNoLater (lesser boarded.deadline run.latest) (lesser boarded.deadline (nth_deadline run n))
+    → (k : ℕ) → IsNthHeld task boarded run k
+rest_held task boarded run n all here last k = elim (cases_lt k (n + 1)) [
+  | inl before ↦ one_more_held task boarded run n all here k before
+  | inr after ↦ (
+      let least : Deadline = boarded.deadline in
+      let late : Deadline = nth_deadline run k in
+      held_weaker _ _ run.ride.alight (pair_after boarded (nth_ride run n) (nth_deadline run n)) (pair_after boarded (nth_ride run k) late) boarded.round
+      (record {
+        deadline = IsNoLater_trans (lesser least late) (lesser least run.latest) (lesser least (nth_deadline run n))
+            (IsNoLater-lesser (lesser least late) least run.latest (lesser_left least late)
+            (IsNoLater_trans (lesser least late) late run.latest (lesser_right least late) (lesser_right (later run.closes (60 * k)) run.latest)))
+            last;
+        arrival = omega (arith, ints);
+        walk = omega arith;
+      })
+      here)
+]
 
 module _ (task : Task) (sound : IsSoundTask task) (active : Bor ActiveDays) (boarded : Boarded) (place : Place) (earliest : ℤ) (runs : List OfferedRun)
     (are : AreOfferedFrom (wanted_from task active place earliest) runs) where

@@ -2,7 +2,7 @@
 
 ghost use Rattle.std.specs.Prelude.{◌≡◌, ◌↔◌, ◌<◌, ◌≤ℤ◌, ◌+ℤ◌, ◌*◌, ℕ, All, IfOk, IsTrue, pos};
 ghost use Rattle.booking_rules.specs.Departures.{later as deadline_after};
-ghost use Rattle.flex_model.specs.Deadline.{lesser};
+ghost use Rattle.flex_model.specs.Deadline.{IsNoLater, lesser};
 ghost use Rattle.ride_index.specs.OfferedRuns.{nth_deadline, nth_ride};
 ghost use Rattle.cert_check.specs.Modest.{IsModest, IsModestDeadline};
 ghost use Rattle.cert_check.specs.Tasks.{AreLookupsOf, IsNthHeld, IsSoundTask, IsUnheldFrom, IsUnheldOf, IsUnheldOfAny, pair_after, pair_of_made, wanted_from};
@@ -78,7 +78,20 @@ fn is_nth_held(
     is_held(task, lookups, ride.alight, &made, boarded.round)
 }
 
-// A ride of the run that isn't held.
+// Whether no ride of the run can be booked later than the one with this number, coming from what is
+// boarded.
+fn is_last_booked(boarded: &Boarded, run: &OfferedRun, number: u32) -> bool
+    requires { IsModest run.now number }
+    ensures { IsTrue result → IsNoLater (lesser boarded.now.deadline run.now.latest)
+        (lesser boarded.now.deadline (nth_deadline run.now number)) }
+{
+    let latest = earlier(boarded.deadline, run.latest);
+    let deadline = deadline_at(run.closes, run.latest, number);
+    is_no_later(latest, earlier(boarded.deadline, deadline))
+}
+
+// A ride of the run that isn't held. Those after one than which none can be booked later are held
+// with it.
 fn unheld_of(
     task: &Task<'_>,
     lookups: &Lookups<'_>,
@@ -92,6 +105,9 @@ fn unheld_of(
     for number in 0..run.count {
         if !is_nth_held(task, lookups, boarded, run, number) {
             return Some(ride_at(run, number));
+        }
+        if is_last_booked(boarded, run, number) {
+            return None;
         }
     }
     None
