@@ -1,0 +1,11 @@
+pub mod Numbered
+pub mod KindTests
+pub mod LabelTables
+pub mod PlaceOrder
+pub mod ValidParts
+pub mod FirstReasons
+pub mod OfferSums
+pub mod EndsFound
+pub mod FoundTests
+pub mod HeldRides
+pub mod WaysHeld

@@ -1,0 +1,10 @@
+pub mod Numbers
+pub mod Labels
+pub mod Reasons
+pub mod Tasks
+pub mod Answers
+pub mod Ends
+pub mod Modest
+pub mod Laws
+pub mod Ways
+pub mod Places
