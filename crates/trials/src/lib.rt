@@ -9,6 +9,8 @@ mod certs;
 #[cfg(test)]
 mod changes;
 #[cfg(test)]
+mod checks;
+#[cfg(test)]
 mod days;
 #[cfg(test)]
 mod feeds;
