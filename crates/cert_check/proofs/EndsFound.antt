@@ -1,15 +1,14 @@
 -- What is reached at the destination from a label.
-use Rattle.std.proofs.Common.{◌≡◌, ℕ, ◌+◌, ◌-◌, ◌<◌, ◌≤◌, ℤ, pos, ◌+ℤ◌, ◌≤ℤ◌, Some, Contains, sym, ◌∙◌, ap, subst, arith}
+use Rattle.std.proofs.Common.{◌≡◌, ℕ, ◌<◌, ℤ, Some, sym, ◌∙◌, ap, subst, arith}
 use Rattle.cert_check.specs.declared.labels.RoundLabel.{RoundLabel}
 use Rattle.cert_check.specs.declared.made.Made.{Made}
 use Rattle.cert_check.specs.declared.task.Task.{Task}
 use Rattle.flex_model.specs.declared.answer.Pair.{Pair}
 use Rattle.flex_model.specs.declared.moment.Deadline.{Deadline}
 use Rattle.flex_model.specs.Answer.{triples}
-use Rattle.flex_model.specs.LabelTable.{IsHeldByTriple, triple_of}
-use Rattle.flex_model.specs.Triple.{Covers, CoversPair, pair_of_triple}
+use Rattle.flex_model.specs.LabelTable.{IsHeldByTriple}
+use Rattle.flex_model.specs.Triple.{CoversPair, pair_of_triple}
 use Rattle.cert_check.specs.Ends.{IsEndCovered, IsEndOf, end_after}
-use Rattle.cert_check.specs.Labels.{label_of}
 use Rattle.cert_check.specs.Tasks.{pair_of_made}
 
 abbrev pub as_pair : Deadline → ℤ → ℕ → Pair

@@ -1,11 +1,10 @@
 -- The kinds of tests, one after another.
-use Rattle.std.proofs.Common.{◌≡◌, ◌⊎◌, inl, inr, ℕ, ◌+◌, ◌<◌, Option, Some, None, sym, ◌∙◌, subst, arith}
+use Rattle.std.proofs.Common.{inl, inr, ℕ, ◌+◌, ◌<◌, Option, Some, None, ◌∙◌, arith}
 use Rattle.std.proofs.lemmas.Bool.{cases_lt}
 use Rattle.cert_check.specs.declared.reason.Reason.{Reason}
 use Rattle.cert_check.specs.declared.reason.Reason.TheVariants.{Query, Rounds, Journey, TripleDiffers, NotOrdered, Beaten, LabelPlace, FinalUncovered, Uncovered}
 use Rattle.cert_check.specs.declared.task.Task.{Task}
-use Rattle.cert_check.specs.Reasons.{IsFirstReason, IsValidPart, IsVerdict, kind}
-use Rattle.cert_check.specs.declared.reason.Verdict.TheVariants.{Yes, No}
+use Rattle.cert_check.specs.Reasons.{IsFirstReason, IsValidPart, kind}
 use Rattle.cert_check.specs.Tasks.{IsFound, IsFoundBelow}
 use Rattle.cert_check.proofs.ValidParts.{reasons_fail, valid_parts_pass}
 

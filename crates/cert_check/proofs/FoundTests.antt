@@ -1,23 +1,19 @@
 -- What is found of each kind of tests, once some items are tried.
-use Rattle.std.proofs.Common.{◌≡◌, ◌⊎◌, inl, inr, ℕ, zero, suc, ◌+◌, ◌<◌, ◌≤◌, pos, ◌+ℤ◌, ◌≤ℤ◌, IsTrue, Bool, true, false, List, Option, Some, None, Contains, length, slice_get, refl, sym, ◌∙◌, ap, subst, arith}
-use Rattle.std.proofs.lemmas.Option.{slice_get-get_or, slice_get_cases}
+use Rattle.std.proofs.Common.{◌≡◌, inl, inr, ℕ, suc, ◌+◌, ◌<◌, ◌≤◌, IsTrue, Bool, Some, None, length, slice_get, refl, sym, subst, arith}
+use Rattle.std.proofs.lemmas.Option.{slice_get_cases}
 use Rattle.cert_check.specs.declared.labels.RoundLabel.{RoundLabel}
-use Rattle.cert_check.specs.declared.reason.Reason.{Reason}
-use Rattle.cert_check.specs.declared.reason.Reason.TheVariants.{Query, Rounds, Journey, TripleDiffers, NotOrdered, Beaten, LabelPlace, FinalUncovered, Uncovered}
+use Rattle.cert_check.specs.declared.reason.Reason.TheVariants.{TripleDiffers, NotOrdered, FinalUncovered, Uncovered}
 use Rattle.cert_check.specs.declared.task.Task.{Task}
 use Rattle.flex_model.specs.declared.answer.Answer.{Answer}
 use Rattle.flex_model.specs.declared.answer.Triple.{Triple}
-use Rattle.flex_model.specs.declared.flaw.JourneyFlaw.{JourneyFlaw}
 use Rattle.flex_model.specs.declared.ride.Ride.{Ride}
-use Rattle.flex_model.specs.Flaw.{IsFirstJourneyFlaw}
-use Rattle.flex_model.specs.Journey.{Attains}
 use Rattle.flex_model.specs.Triple.{IsTripleBefore}
 use Rattle.cert_check.specs.Answers.{IsRealTriple}
 use Rattle.cert_check.specs.Ends.{IsEndUncovered}
 use Rattle.cert_check.specs.Labels.{labels_of}
-use Rattle.cert_check.specs.Numbers.{AllTo, IsNumber}
+use Rattle.cert_check.specs.Numbers.{AllTo}
 use Rattle.cert_check.specs.Tasks.{IsFound}
-use Rattle.cert_check.specs.Ways.{IsFirstHeld, IsFirstUnheld, IsNextUnheld}
+use Rattle.cert_check.specs.Ways.{IsFirstHeld, IsNextUnheld}
 use Rattle.cert_check.proofs.KindTests as kinds
 use Rattle.cert_check.proofs.Numbered.{none_of_kind, number_from_index, one_of_kind}
 

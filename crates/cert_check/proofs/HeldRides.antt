@@ -1,5 +1,5 @@
 -- Rides that are held, and rides that are offered.
-use Rattle.std.proofs.Common.{◌≡◌, ◌⊎◌, ◌↔◌, inl, inr, ℕ, ◌+◌, ◌*◌, ◌<◌, ◌≤◌, ℤ, pos, ◌+ℤ◌, ◌≤ℤ◌, List, Option, Some, None, All, Contains, refl, sym, ◌∙◌, ap, subst, arith}
+use Rattle.std.proofs.Common.{◌↔◌, inl, inr, ℕ, ◌+◌, ◌*◌, ◌<◌, ℤ, pos, ◌+ℤ◌, ◌≤ℤ◌, List, Option, Some, None, All, Contains, sym, ◌∙◌, ap, subst, arith}
 use Rattle.std.specs.Borrow.{Bor}
 use Rattle.std.proofs.lemmas.Bool.{cases_lt, cases_order}
 use Rattle.std.proofs.lemmas.Int.{ints}
@@ -16,8 +16,7 @@ use Rattle.flex_model.specs.declared.ride.Ride.{Ride}
 use Rattle.booking_rules.specs.Departures.{later}
 use Rattle.flex_model.specs.Booking.{IsDeadline}
 use Rattle.flex_model.specs.Deadline.{IsNoLater, lesser}
-use Rattle.flex_model.specs.Journey.{limit}
-use Rattle.flex_model.specs.LabelTable.{IsHeld, IsHeldByLabel, IsInRound, Label, pair_of}
+use Rattle.flex_model.specs.LabelTable.{IsHeld, IsHeldByLabel, Label, pair_of}
 use Rattle.flex_model.specs.Triple.{CoversPair, pair_of_triple}
 use Rattle.flex_model.proofs.Bounds.{deadlines_in_time}
 use Rattle.flex_model.proofs.Certificates.{ride_forwards}

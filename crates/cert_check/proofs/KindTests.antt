@@ -1,5 +1,5 @@
 -- The tests of each kind are those of the items of a list.
-use Rattle.std.proofs.Common.{◌≡◌, ℕ, zero, suc, ◌+◌, List, Option, Some, None, arith}
+use Rattle.std.proofs.Common.{◌≡◌, ℕ, zero, suc, ◌+◌, arith}
 use Rattle.bound_cert.specs.declared.cert.CertPart.{CertPart}
 use Rattle.cert_check.specs.declared.labels.RoundLabel.{RoundLabel}
 use Rattle.cert_check.specs.declared.reason.Reason.{Reason}
@@ -11,10 +11,9 @@ use Rattle.flex_model.specs.declared.query.Query as query
 use Rattle.flex_model.specs.declared.ride.Ride.{Ride}
 use Rattle.flex_model.specs.declared.times.Times.{Times}
 use Rattle.flex_model.specs.Journey.{Attains, IsLabelPlace, IsPermittedJourney}
-use Rattle.flex_model.specs.Triple.{Covers}
 use Rattle.cert_check.specs.Labels.{labels_of}
 use Rattle.cert_check.specs.Numbers.{IsNumber}
-use Rattle.cert_check.specs.Reasons.{IsBeforeNumber, IsEndCovered, IsFirstHeld, IsFirstOfKind, IsNextHeld, IsUnbeaten, Passes, kind, number}
+use Rattle.cert_check.specs.Reasons.{IsBeforeNumber, IsEndCovered, IsFirstHeld, IsNextHeld, IsUnbeaten, Passes, kind, number}
 
 module _ (feed : Feed) (times : Times) (days : DayTable) (query : query.Query) (part : CertPart) where
   -- the journey of the answer is permitted

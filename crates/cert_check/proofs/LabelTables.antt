@@ -1,5 +1,5 @@
 -- The labels of a part in one list are those of its table.
-use Rattle.std.proofs.Common.{◌≡◌, ◌⊎◌, inl, inr, ℕ, zero, suc, ◌+◌, ◌<◌, ◌≤◌, pos, List, [], ◌∷◌, ◌++◌, Some, None, Contains, get_or, length, map, slice_get, option_map, take, refl, sym, ◌∙◌, ap, subst, arith}
+use Rattle.std.proofs.Common.{◌≡◌, inl, inr, ℕ, zero, suc, ◌+◌, ◌<◌, pos, List, [], ◌∷◌, ◌++◌, Some, Contains, get_or, length, map, slice_get, option_map, take, refl, sym, ◌∙◌, ap, subst, arith}
 use Rattle.std.proofs.Math.Seq.{take-suc}
 use Rattle.std.proofs.lemmas.List.{append-nil, append_assoc, length-take-le}
 use Rattle.std.proofs.lemmas.List.Elements.{Contains-append_cases, Contains-append_left, Contains-append_right}
@@ -14,7 +14,6 @@ use Rattle.flex_model.specs.LabelTable.{IsInRound, Label}
 use Rattle.flex_model.proofs.Found.{Contains-at, found_in_map, index_of, none_contained}
 use Rattle.cert_check.specs.Labels.{in_round, label_of, labels_from, labels_of, table_of}
 use Rattle.cert_check.specs.Numbers.{IsNumber}
-use Rattle.cert_check.proofs.Numbered.{number_of_index}
 
 -- ---- images of lists
 

@@ -1,6 +1,5 @@
 -- A part is valid just where it passes each test, and a reason that is true of it is a test that it fails.
-use Rattle.std.proofs.Common.{◌≡◌, ◌⊎◌, inl, inr, ℕ, zero, suc, ◌+◌, ◌-◌, ◌<◌, ◌≤◌, pos, ◌+ℤ◌, ◌≤ℤ◌, List, Option, Some, None, All, AllPairs, Contains, get_or, length, map, slice_get, option_map, refl, sym, ◌∙◌, ap, subst, arith}
-use Rattle.std.proofs.lemmas.Bool.{cases_order}
+use Rattle.std.proofs.Common.{◌≡◌, ℕ, zero, suc, ◌+◌, ◌-◌, ◌<◌, ◌≤◌, pos, ◌+ℤ◌, ◌≤ℤ◌, List, Some, All, AllPairs, Contains, get_or, length, map, slice_get, option_map, refl, sym, ◌∙◌, ap, subst, arith}
 use Rattle.std.proofs.lemmas.List.{length-map}
 use Rattle.std.proofs.lemmas.Option.{slice_get-get_or, slice_get-map}
 use Rattle.bound_cert.specs.declared.cert.CertPart.{CertPart}
@@ -12,7 +11,6 @@ use Rattle.flex_model.specs.declared.answer.Triple.{Triple}
 use Rattle.flex_model.specs.declared.feed.Feed.{Feed}
 use Rattle.flex_model.specs.declared.moment.DayTable.{DayTable}
 use Rattle.flex_model.specs.declared.query.Query as query
-use Rattle.flex_model.specs.declared.ride.Ride.{Ride}
 use Rattle.flex_model.specs.declared.times.Times.{Times}
 use Rattle.flex_model.specs.Answer.{triples}
 use Rattle.flex_model.specs.Change.{HasEgress}
@@ -25,9 +23,8 @@ use Rattle.flex_model.proofs.Orders.{IsTripleBefore_trans}
 use Rattle.cert_check.specs.Labels.{label_of, labels_of, table_of}
 use Rattle.cert_check.specs.Laws.{ReasonsAreFailedTests, ValidPartsPass}
 use Rattle.cert_check.specs.Numbers.{IsNumber}
-use Rattle.cert_check.specs.Reasons.{Applies, IsFirstReason, IsNextHeld, IsValidPart, Passes, kind}
-use Rattle.cert_check.proofs.LabelTables.{in_table, listed, round_some}
-use Rattle.cert_check.proofs.Numbered.{number_of_index}
+use Rattle.cert_check.specs.Reasons.{Applies, IsValidPart, Passes}
+use Rattle.cert_check.proofs.LabelTables.{in_table, listed}
 
 -- ---- lists in which each item comes before the next one
 

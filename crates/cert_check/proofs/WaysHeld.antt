@@ -1,5 +1,5 @@
 -- Rides from the origin and after a label, by where they are boarded.
-use Rattle.std.proofs.Common.{◌≡◌, ◌≢◌, ◌⊎◌, ◌↔◌, inl, inr, ℕ, zero, suc, ◌+◌, ◌*◌, ◌<◌, ◌≤◌, ℤ, pos, ◌+ℤ◌, ◌≤ℤ◌, ◌<ℤ◌, List, Option, Some, None, All, Contains, refl, sym, ◌∙◌, ap, subst, arith}
+use Rattle.std.proofs.Common.{◌≡◌, ◌⊎◌, ◌↔◌, inl, inr, ℕ, ◌+◌, ◌<◌, ◌≤◌, pos, ◌+ℤ◌, ◌≤ℤ◌, List, Option, Some, None, All, Contains, refl, sym, ◌∙◌, ap, subst, arith}
 use Rattle.std.proofs.lemmas.Int.{ints}
 use Rattle.std.proofs.lemmas.List.Elements.{All-contains}
 use Rattle.std.proofs.lemmas.Option.{none-some, same_Some}
@@ -8,20 +8,18 @@ use Rattle.cert_check.specs.declared.made.Boarded.{Boarded}
 use Rattle.cert_check.specs.declared.task.Task.{Task}
 use Rattle.flex_model.specs.declared.change.ChangeKind.TheVariants.{Least}
 use Rattle.flex_model.specs.declared.change.ChangeRow.{ChangeRow}
-use Rattle.flex_model.specs.declared.moment.Deadline.{Deadline}
 use Rattle.flex_model.specs.declared.moment.Deadline.TheVariants.{Never}
 use Rattle.flex_model.specs.declared.place.Place.{Place}
 use Rattle.flex_model.specs.declared.place.Place.TheVariants.{Stop, Point}
 use Rattle.flex_model.specs.declared.ride.Ride.{Ride}
 use Rattle.flex_model.specs.declared.times.Span.{Span}
 use Rattle.flex_model.specs.Change.{HasAccess, HasChange}
-use Rattle.flex_model.specs.Deadline.{lesser}
-use Rattle.flex_model.specs.Journey.{StartsOnFoot, change_walk, counted, limit}
-use Rattle.flex_model.specs.LabelTable.{IsOnTheWay, LeadsTo, first_pair, next_pair}
+use Rattle.flex_model.specs.Journey.{change_walk, counted, limit}
+use Rattle.flex_model.specs.LabelTable.{first_pair, next_pair}
 use Rattle.flex_model.proofs.Certificates.{ride_forwards}
 use Rattle.cert_check.specs.Labels.{label_of}
-use Rattle.cert_check.specs.Tasks.{CanBeTaken, IsHeldIn, IsRideHeld, IsSoundTask, IsUnheldFrom, pair_after}
-use Rattle.cert_check.specs.Ways.{AreFirstHeld, AreNextHeld, IsFirstHeld, IsFirstUnheld, IsNextHeld, IsNextUnheld, IsUnheldAccess, IsUnheldChange, IsUnheldFirst, IsUnheldNext, IsUnheldRule, IsUnheldWalk}
+use Rattle.cert_check.specs.Tasks.{IsHeldIn, IsSoundTask, IsUnheldFrom}
+use Rattle.cert_check.specs.Ways.{AreFirstHeld, AreNextHeld, IsFirstHeld, IsNextHeld, IsUnheldAccess, IsUnheldChange, IsUnheldFirst, IsUnheldNext, IsUnheldRule, IsUnheldWalk}
 
 -- ---- from the origin
 

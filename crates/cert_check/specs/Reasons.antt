@@ -1,15 +1,15 @@
 -- Why a part of a certificate is not valid: the first of its tests that fails.
 --
 -- Each reason is a test that fails. A part is tried by these tests: its id and whether it asks for
--- walking, the number of its rounds, the journey of each answer, the triple of each answer, the order
--- of each answer and the next one, whether another answer covers an answer, the place of each label,
--- whether the end from each label is covered, and whether the rides from the origin and after each
--- label are held. They are tried in this order, and each kind in the order of the answers or labels,
--- which count from 1, labels through all rounds. Rides from the origin come before those after labels.
--- So a part is valid just where it passes each test.
+-- walking, the number of its rounds, the journey of each answer, the triple of each answer, the
+-- order of each answer and the next one, whether another answer covers an answer, the place of each
+-- label, whether the end from each label is covered, and whether rides from the origin and after
+-- each label are held. They are tried in this order, and each kind in the order of the answers or
+-- labels, which count from 1, labels through all rounds. Rides from the origin come before those
+-- after labels. So a part is valid just where it passes each test.
 --
 -- This project's own.
-use Rattle.std.specs.Prelude.{◌≡◌, ◌⊎◌, ℕ, zero, suc, ◌+◌, ◌<◌, ◌≤◌, pos, ◌+ℤ◌, ◌≤ℤ◌, List, Option, Some, None, Contains, length}
+use Rattle.std.specs.Prelude.{◌≡◌, ◌⊎◌, ℕ, zero, suc, ◌+◌, ◌<◌, ◌≤◌, pos, ◌+ℤ◌, ◌≤ℤ◌, Option, Some, None, Contains, length}
 use Rattle.bound_cert.specs.declared.cert.CertPart.{CertPart}
 use Rattle.cert_check.specs.declared.labels.RoundLabel.{RoundLabel}
 use Rattle.cert_check.specs.declared.reason.Reason.{Reason}
@@ -21,7 +21,7 @@ use Rattle.flex_model.specs.declared.answer.Triple.{Triple}
 use Rattle.flex_model.specs.declared.feed.Feed.{Feed}
 use Rattle.flex_model.specs.declared.moment.DayTable.{DayTable}
 use Rattle.flex_model.specs.declared.moment.Deadline.{Deadline}
-use Rattle.flex_model.specs.declared.query.Query as query
+use Rattle.flex_model.specs.declared.query.Query.{Query as TheQuery}
 use Rattle.flex_model.specs.declared.ride.Ride.{Ride}
 use Rattle.flex_model.specs.declared.times.Times.{Times}
 use Rattle.flex_model.specs.Answer.{triples}
@@ -79,7 +79,7 @@ IsTriedBefore a b =
 abbrev pub Precedes : Reason → Reason → Type 0
 Precedes a b = (kind a < kind b) ⊎ ((kind a ≡ kind b) × IsTriedBefore a b)
 
-module _ (feed : Feed) (times : Times) (days : DayTable) (query : query.Query) (part : CertPart) where
+module _ (feed : Feed) (times : Times) (days : DayTable) (query : TheQuery) (part : CertPart) where
   -- The part has the query's id, asks for walking just where the query does, and its answers and
   -- labels are a valid certificate.
   pub record IsValidPart : Type 0 where

@@ -1,5 +1,5 @@
 -- Rides from the origin and after a label, by where they are boarded. This project's own.
-use Rattle.std.specs.Prelude.{◌≡◌, ℕ, ◌+◌, ◌≤◌, List, Option, Some, None, All}
+use Rattle.std.specs.Prelude.{◌≡◌, List, Option, Some, None, All}
 use Rattle.cert_check.specs.declared.labels.RoundLabel.{RoundLabel}
 use Rattle.cert_check.specs.declared.task.Task.{Task}
 use Rattle.flex_model.specs.declared.change.ChangeRow.{ChangeRow}

@@ -98,8 +98,8 @@ fn first_reason(
     Ok(reason)
 }
 
-/// Checks a part of a certificate for the query, with an index of the feed that was built before. It
-/// says `Yes` just where the part is valid: then its answers are exact, whoever made them. Any
+/// Checks a part of a certificate for the query, with an index of the feed that was built before.
+/// It says `Yes` just where the part is valid: then its answers are exact, whoever made them. Any
 /// numbers may stand in the part. Want of memory is the only refusal. This project's own.
 pub fn check(
     alloc: Global,

@@ -68,8 +68,8 @@ pub(crate) fn counted_walk(query: &Query, seconds: u32) -> u32
     if query.walking { seconds } else { 0 }
 }
 
-/// The seconds of a change that are walked: all of them between two different stops, and none within
-/// a stop.
+/// The seconds of a change that are walked: all of them between two different stops, and none
+/// within a stop.
 pub(crate) fn walk_between(a: Place, b: Place, seconds: u32) -> u32
     ensures { result ≡ change_walk a b seconds }
 {

@@ -7,8 +7,8 @@ use flex_model::{JourneyFlaw, Ride, Triple};
 /// through all rounds. This project's own.
 #[derive(Clone, Copy, Debug, PartialEq, Eq)]
 pub enum Reason {
-    /// Its id is not that of the query, or it asks for walking where the query doesn't, or the other
-    /// way round.
+    /// Its id is not that of the query, or it asks for walking where the query doesn't, or doesn't
+    /// where the query does.
     Query,
     /// It has not a round for each number of rides up to the query's transfers and one.
     Rounds,
@@ -50,8 +50,8 @@ pub enum Reason {
         /// The label.
         label: u64,
     },
-    /// A ride on the way from the origin is not held in the first round, or one after a label in the
-    /// round after that of the label.
+    /// A ride on the way from the origin is not held in the first round, or one after a label is
+    /// not held in the round after that of the label.
     Uncovered {
         /// The label, or 0 for a ride from the origin.
         from: u64,

@@ -1,4 +1,4 @@
-use Rattle.std.proofs.Common.{◌≡◌, ◌+◌, Some, get_or, length, slice_get, refl, ◌∙◌, ap, arith}
+use Rattle.std.proofs.Common.{◌+◌, get_or, length, refl, ◌∙◌, ap, arith}
 use Rattle.cert_check.specs.declared.reason.Reason.TheVariants.{Journey}
 use Rattle.flex_model.specs.declared.flaw.JourneyFlaw.TheVariants.{NoRide}
 use Rattle.cert_check.proofs.FoundTests.{HasTriple, triples_none, triples_some}

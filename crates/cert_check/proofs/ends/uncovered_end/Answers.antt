@@ -1,4 +1,4 @@
-use Rattle.std.proofs.Common.{◌+◌, get_or, length, refl, ap, subst, arith}
+use Rattle.std.proofs.Common.{get_or, length, refl, ap, subst, arith}
 use Rattle.cert_check.specs.Numbers.{AllTo}
 use Rattle.cert_check.proofs.FoundTests.{HasEnd, ends_none, ends_some}
 use Rattle.cert_check.proofs.LabelTables.{label_at, no_label, round_at}

@@ -1,5 +1,5 @@
 use mir.Syntax.{w64}
-use Rattle.std.proofs.Common.{rules, ℕ, ◌<◌, List, All, sym, subst}
+use Rattle.std.proofs.Common.{rules, ℕ, ◌<◌, All, sym, subst}
 use Rattle.std.proofs.lemmas.Int.{to_z-of_z}
 use Rattle.ride_index.specs.OfferedRuns.{AreOfferedFrom}
 use Rattle.cert_check.specs.Modest.{IsModest}

@@ -1,4 +1,4 @@
-use Rattle.std.proofs.Common.{◌+◌, get_or, length, refl, ap, subst, arith}
+use Rattle.std.proofs.Common.{get_or, length, refl, ap, subst, arith}
 use Rattle.cert_check.specs.Numbers.{AllTo}
 use Rattle.cert_check.specs.Ways.{IsUnheldNext}
 use Rattle.cert_check.proofs.FoundTests.{HasRides, rides_none, rides_some}
