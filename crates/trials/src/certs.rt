@@ -35,7 +35,7 @@ const POINTS: (&str, &[u8]) = (
 );
 
 // The certificate of a query with two journeys, line by line.
-pub(crate) const LINES: [&str; 12] = [
+const LINES: [&str; 12] = [
     "flexcert 1 1",
     "query q1 2",
     "journey 2025-06-03T17:00:00Z 2025-06-04T09:00:00Z 0",

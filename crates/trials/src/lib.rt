@@ -9,8 +9,6 @@ mod certs;
 #[cfg(test)]
 mod changes;
 #[cfg(test)]
-mod checks;
-#[cfg(test)]
 mod days;
 #[cfg(test)]
 mod feeds;

@@ -8,8 +8,7 @@ use crate::samples::{read_feed, read_times};
 use crate::zoned::{BY_TEN, INSIDE, OUTSIDE, ZONE};
 use flex_model::{Deadline, Moment, Place};
 use ride_index::{
-    ActiveDays, Boarded, Carried, OfferedRun, RideIndex, Wanted, add_timed_rides, offers_after,
-    offers_from,
+    ActiveDays, Boarded, Carried, OfferedRun, RideIndex, Wanted, add_timed_rides, offers_from,
 };
 use std::alloc::Global;
 use std::process::Abort;
@@ -210,41 +209,6 @@ fn assert_offers(
         };
         offers_from(alloc, &index, &wanted, &mut runs)?;
         assert_eq!(rt; first_arrival(runs.as_slice(), *alight, *booked), *arrives);
-    }
-    Ok(())
-}
-
-// How many runs are offered at M in the morning once M was boarded with the one walk and is boarded with the other.
-fn offered_again(alloc: Global, before: u32, walk: u32) -> Result<usize, Fail> {
-    let feed = read_feed(alloc, &ONCE)?;
-    let times = read_times(alloc, &feed, &[UTC])?;
-    let days = june_days(alloc)?;
-    let index = RideIndex::build(alloc, &feed)?;
-    let active = ActiveDays::build(alloc, &feed, &days)?;
-    let wanted = Wanted {
-        feed: &feed,
-        times: &times,
-        days: &days,
-        active: &active,
-        asked: ASKED,
-        destination: N,
-        place: M,
-        earliest: EIGHT,
-        limit: EIGHT + 14_400,
-    };
-    let mut runs: Vec<OfferedRun> = Vec::new(alloc);
-    let mut boarded = Boarded::new(alloc, 16)?;
-    for walk in [before, walk] {
-        let carried = Carried { walk, ..AT_FIRST };
-        offers_after(alloc, &index, &wanted, &carried, &mut boarded, &mut runs)?;
-    }
-    Ok(runs.len())
-}
-
-#[test]
-fn rides_of_an_earlier_boarding_are_not_offered_again(rt: HostRuntime) -> Result<(), Fail> {
-    for (before, walk, found) in [(0, 0, 0), (0, 9, 0), (9, 0, 1)] {
-        assert_eq!(rt; offered_again(rt.alloc(), before, walk)?, found);
     }
     Ok(())
 }

@@ -349,7 +349,7 @@ fn a_trip_of_the_day_before_is_found(rt: HostRuntime) -> Result<(), Fail> {
 }
 
 // X1 goes from M at 08:00:00 to N at 08:20:00, X2 from O at 08:25:00 to Q at 08:40:00, and from Q one walks to D, 20 minutes.
-pub(crate) const CHANGING: [(&str, &[u8]); 6] = [
+const CHANGING: [(&str, &[u8]); 6] = [
     (
         "a/trips.txt",
         b"route_id,service_id,trip_id\nR,W,F1\nR,W,X1\nR,W,X2\n",
@@ -385,19 +385,19 @@ const AT_ONCE: (&str, &[u8]) = (
 // From N one may walk to D, too.
 const WALKS: (&str, &[u8]) = ("t/walks.txt", b"from_id,to_id,seconds\nQ,D,1200\nN,D,600\n");
 
-pub(crate) const WHOLE_WAY: Ride = Ride {
+const WHOLE_WAY: Ride = Ride {
     alight: Place::Point(1),
     arrives: EIGHT + 3_600,
     ..RIDE
 };
 
-pub(crate) const FIRST: Ride = Ride {
+const FIRST: Ride = Ride {
     trip: 1,
     arrives: EIGHT + 1_200,
     ..RIDE
 };
 
-pub(crate) const SECOND: Ride = Ride {
+const SECOND: Ride = Ride {
     trip: 2,
     board: O,
     alight: Q,
