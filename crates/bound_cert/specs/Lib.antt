@@ -1,5 +1,6 @@
 pub mod CertText
 pub mod PrintableCert
+pub mod Parts
 pub mod HeldCert
 pub mod Syntax
 pub mod LineWords

@@ -130,7 +130,7 @@ module _ (feed : Feed) (times : Times) (sound : IsSoundFeed feed) (sound_times :
           let high : moment ≤ℤ ride.departs = by.1 in
           record { low = omega (arith, ints); high = omega (arith, ints) }
 
-    answer_printed : (answer : Answer) → Attains feed times days query answer.rides answer.triple → IsPrintableAnswer feed times query.walking answer
+    pub answer_printed : (answer : Answer) → Attains feed times days query answer.rides answer.triple → IsPrintableAnswer feed times query.walking answer
     answer_printed answer attains =
         let journey = attains.journey in
         let rides = answer.rides in

@@ -1,28 +1,23 @@
 -- The rides of a leg as runs.
-use Rattle.std.proofs.Common.{◌≡◌, ◌↔◌, ℕ, ◌+◌, ◌-◌, ◌*◌, ◌<◌, ◌≤◌, ℤ, pos, negsuc, ◌+ℤ◌, ◌-ℤ◌, ◌≤ℤ◌, min, None, Some, [], ◌∷◌, refl, sym, ◌∙◌, ap, subst, arith}
-use Rattle.std.proofs.lemmas.Int.{clamps, ints}
-use Rattle.flex_model.specs.declared.feed.Feed.{Feed}
-use Rattle.flex_model.specs.declared.moment.DayTable.{DayTable}
+use Rattle.std.proofs.Common.{◌≡◌, ◌↔◌, ℕ, ◌-◌, ◌*◌, ◌<◌, ℤ, pos, ◌+ℤ◌, ◌≤ℤ◌, min, None, Some, [], ◌∷◌, refl, sym, ◌∙◌, ap, subst, arith}
+use Rattle.std.proofs.lemmas.Int.{ints}
 use Rattle.flex_model.specs.declared.moment.Deadline.{Deadline}
-use Rattle.flex_model.specs.declared.moment.Deadline.TheVariants as deadline
-use Rattle.flex_model.specs.declared.moment.Deadline.TheVariants.{Never}
 use Rattle.flex_model.specs.declared.ride.Arrives.{Arrives}
 use Rattle.flex_model.specs.declared.ride.Arrives.TheVariants.{After, At}
 use Rattle.flex_model.specs.declared.ride.Ride.{Ride}
 use Rattle.flex_model.specs.declared.ride.Run.{Run}
 use Rattle.flex_model.specs.Booking.{IsBookable, IsDeadline}
-use Rattle.flex_model.specs.Deadline.{IsNoLater, lesser}
+use Rattle.flex_model.specs.Deadline.{IsNoLater}
 use Rattle.flex_model.specs.Ride.{IsPermittedRide}
 use Rattle.flex_model.specs.Run.{IsArrival, IsInRun, IsRunOf, Leg, ride_of}
 use Rattle.flex_model.proofs.Bookings.{IsDeadline_unique}
 use Rattle.flex_model.proofs.Found.{Contains-first, only_contained}
-use Rattle.booking_rules.specs.Departures.{IsCoveredBy, IsKept, IsOpenUntil, LeavesInRange, later, nth_departure, ride_at}
-use Rattle.booking_rules.specs.Openings.{IsInRange}
-use Rattle.booking_rules.proofs.LaterRides.{bookable_later, deadline_between}
+use Rattle.booking_rules.specs.Departures.{IsKept, IsOpenUntil, LeavesInRange, nth_departure, ride_at}
+use Rattle.booking_rules.proofs.LaterRides.{deadline_between}
 use Rattle.booking_rules.proofs.PermittedDepartures.{departs_in_range}
 use Rattle.ride_index.specs.declared.offered_run.OfferedRun.{OfferedRun}
 use Rattle.ride_index.specs.declared.wanted.Wanted.{Wanted}
-use Rattle.ride_index.specs.Legs.{AreRidesFrom, IsInTime, IsKeptRun, IsLegOf, IsLegRide, arrival_then}
+use Rattle.ride_index.specs.Legs.{IsInTime, IsKeptRun, IsLegOf, IsLegRide, arrival_then}
 use Rattle.ride_index.specs.OfferedRuns.{AreOffersOf, IsReachable, IsSoundWanted, nth_deadline, nth_ride}
 
 pub is_arrival : (how : Arrives) (departs : ℤ) → IsArrival how departs (arrival_then how departs)
@@ -75,69 +70,6 @@ count_after run seconds limit from most how is few by k lt =
     let same : from +ℤ pos (60 * k) ≡ arrival_then run.arrives (nth_departure run k) = at ∙ sym (ap (λ a. arrival_then a (nth_departure run k)) how) in
     subst (λ m. (k < most) ↔ (m ≤ℤ limit)) same (by k (omega arith))
 
--- ---- the rides from a departure on
-
--- the ride at the first departure arrives first
-pub first_arrives : (run : Run) (departs arrives : ℤ) → IsInRun run departs arrives → arrival_then run.arrives run.first ≤ℤ arrives
-first_arrives run departs arrives h = by run.arrives h.3
-  where
-    then : departs ≡ run.first +ℤ pos (60 * h.0)
-    then = h.2
-
-    by : (how : Arrives) → IsArrival how departs arrives → arrival_then how run.first ≤ℤ arrives
-    by (After seconds) is = omega (arith, ints, then, is)
-    by (At moment) is = omega (arith, ints, is)
-
-module _ (run : Run) (k : ℕ) (from : ℤ) (within : k < run.count) (is : from ≡ nth_departure run k) (range : LeavesInRange run) where
-  -- where each ride arrives after the same time
-  pub rest_after : (seconds count : ℕ) → run.arrives ≡ After seconds → run.count < 4294967296 → count < 4294967296
-      → ((j : ℕ) → j < 4294967295 → (j < count) ↔ ((from +ℤ pos (60 * j)) ≤ℤ nth_departure run (run.count - 1)))
-      → AreRidesFrom run from (record { first = from; count = count; arrives = run.arrives })
-  rest_after seconds count how few fewer by = record {
-    some = (by 0 (omega arith)).1 (omega (arith, ints, is, within));
-    departs = λ j lt.
-        let low = (by j (omega arith)).0 lt in
-        let same : nth_departure run (k + j) ≡ from +ℤ pos (60 * j) = omega (arith, ints, is) in
-        subst IsInRange same (range (k + j) (omega (arith, ints, low, is, within)));
-    single = λ moment e. (let f : After seconds ≡ At moment = sym how ∙ e in cc);
-    each = λ departs arrives h.
-        let j = h.0 in
-        let lt : j < count = h.1 in
-        let then : departs ≡ from +ℤ pos (60 * j) = h.2 in
-        let low = (by j (omega (arith, lt, fewer))).0 lt in
-        ((k + j, omega (arith, ints, low, is, within), omega (arith, ints, then, is), h.3), omega (arith, ints, then));
-    covers = λ departs arrives h le.
-        let i = h.0 in
-        let lt : i < run.count = h.1 in
-        let then : departs ≡ run.first +ℤ pos (60 * i) = h.2 in
-        let at : arrives ≡ departs +ℤ pos seconds = arrival_is run.arrives departs arrives h.3 ∙ ap (λ w. arrival_then w departs) how in
-        let no_earlier : (from +ℤ pos seconds) ≤ℤ arrives = subst (λ w. arrival_then w from ≤ℤ arrives) how le in
-        let order : k ≤ i = omega (arith, ints, then, at, no_earlier, is) in
-        let low = (by (i - k) (omega (arith, lt, few))).1 (omega (arith, ints, lt, is, order)) in
-        (departs, (i - k, low, omega (arith, ints, then, is, order), h.3), omega (arith, ints));
-  }
-
-  -- where all arrive at one moment
-  pub rest_at : (moment last : ℤ) → run.arrives ≡ At moment → last ≡ nth_departure run (run.count - 1) → AreRidesFrom run from (record { first = last; count = 1; arrives = run.arrives })
-  rest_at moment last how ends = record {
-    some = omega arith;
-    departs = λ j lt.
-        let same : nth_departure run (run.count - 1) ≡ last +ℤ pos (60 * j) = omega (arith, ints, ends, lt) in
-        subst IsInRange same (range (run.count - 1) (omega (arith, within)));
-    single = λ m e. refl;
-    each = λ departs arrives h.
-        let j = h.0 in
-        let lt : j < 1 = h.1 in
-        let then : departs ≡ last +ℤ pos (60 * j) = h.2 in
-        ((run.count - 1, omega (arith, within), omega (arith, ints, then, lt, ends), h.3), omega (arith, ints, then, lt, ends, is, within));
-    covers = λ departs arrives h le.
-        let i = h.0 in
-        let lt : i < run.count = h.1 in
-        let then : departs ≡ run.first +ℤ pos (60 * i) = h.2 in
-        let at : arrives ≡ moment = arrival_is run.arrives departs arrives h.3 ∙ ap (λ w. arrival_then w departs) how in
-        (last, (0, omega arith, omega (arith, ints), subst (λ w. IsArrival w last arrives) (sym how) at), omega (arith, ints, then, lt, ends));
-  }
-
 -- the ride of a leg that the code makes
 pub leg_ride_is : (leg : Ride) (day d a d' a' : ℤ) → day ≡ leg.day → d ≡ d' → a ≡ a'
     → record {
@@ -162,29 +94,6 @@ leg_ride_is leg day d a d' a' on p q = λ i. record {
   departs = p i;
   arrives = q i;
 }
-
--- ---- a later ride can be booked no less late
-
-lesser_low : (a b : Deadline) → IsNoLater (lesser a b) b
-lesser_low a Never = tt
-lesser_low Never (deadline.At n) = omega (arith, ints)
-lesser_low (deadline.At m) (deadline.At n) = omega (arith, ints, clamps)
-
-gap : (z : ℤ) → pos 0 ≤ℤ z → (n : ℕ) × (pos n ≡ z)
-gap (pos n) le = (n, refl)
-gap (negsuc n) le = absurd (omega (arith, ints))
-
-later_deadline : (feed : Feed) (days : DayTable) (leg : Ride) (departs arrives later_departs later_arrives : ℤ) (until latest : Deadline) → departs ≤ℤ later_departs
-    → IsDeadline feed days (ride_at leg departs arrives) until → IsDeadline feed days (ride_at leg later_departs later_arrives) latest → IsNoLater until latest
-later_deadline feed days leg departs arrives later_departs later_arrives until latest le one two =
-    let n = gap (later_departs -ℤ departs) (omega (arith, ints, le)) in
-    let then : departs +ℤ pos n.0 ≡ later_departs = (let e = n.1 in omega (arith, ints, e)) in
-    let none : departs +ℤ pos 0 ≡ departs = omega (arith, ints) in
-    let least = deadline_between feed days (ride_at leg departs arrives) until latest 0 n.0 arrives later_arrives (omega arith) one
-    (subst (λ d. IsDeadline feed days (ride_at leg d later_arrives) latest) (sym then) two) in
-    let same = IsDeadline_unique feed days (ride_at leg departs arrives) until (lesser (later until 0) latest) one
-    (subst (λ d. IsDeadline feed days (ride_at leg d arrives) (lesser (later until 0) latest)) none least) in
-    subst (λ d. IsNoLater d latest) (sym same) (lesser_low (later until 0) latest)
 
 -- ---- the offer of a run
 
@@ -245,23 +154,22 @@ module _ (wanted : Wanted) (leg : Ride) (kept : Run) (of : IsLegOf wanted leg) (
         subst (λ r. IsLegRide wanted leg (nth_ride r k) (nth_deadline r k)) (sym e) (each_offered k (subst (λ r. k < r.count) e lt));
     whole = λ ride deadline h.
         let c = is.covers ride deadline h in
-        let k = c.1.0 in
-        let lt : k < kept.count = c.1.1 in
-        let then : c.0 ≡ nth_departure kept k = c.1.2 in
-        let arrives : ride.arrives ≡ arrival_then kept.arrives (nth_departure kept k) = arrival_is kept.arrives c.0 ride.arrives c.1.3 ∙ ap (arrival_then kept.arrives) then in
-        let same : ride_at leg c.0 ride.arrives ≡ nth_ride offered k =
-        ride_as leg c.0 ride.arrives (nth_departure kept k) (arrival_then kept.arrives (nth_departure kept k)) then arrives ∙ sym (nth_is k lt) in
+        let k = c.in_run.0 in
+        let lt : k < kept.count = c.in_run.1 in
+        let then : c.departs ≡ nth_departure kept k = c.in_run.2 in
+        let arrives : c.then_arrives ≡ arrival_then kept.arrives (nth_departure kept k) = arrival_is kept.arrives c.departs c.then_arrives c.in_run.3 ∙ ap (arrival_then kept.arrives) then in
+        let same : ride_at leg c.departs c.then_arrives ≡ nth_ride offered k =
+        ride_as leg c.departs c.then_arrives (nth_departure kept k) (arrival_then kept.arrives (nth_departure kept k)) then arrives ∙ sym (nth_is k lt) in
+        let until : c.until ≡ nth_deadline offered k =
+        IsDeadline_unique wanted.feed.now wanted.days.now (nth_ride offered k) c.until (nth_deadline offered k) (subst (λ x. IsDeadline wanted.feed.now wanted.days.now x c.until) same c.closes) (deadline_is k lt) in
         record {
           run = offered;
           among = Contains-first offered [];
           at = k;
           low = lt;
           alights = ap (λ r. r.alight) (sym h.1);
-          booked = later_deadline wanted.feed.now wanted.days.now leg ride.departs ride.arrives c.0 ride.arrives deadline (nth_deadline offered k) c.2
-              (subst (λ x. IsDeadline wanted.feed.now wanted.days.now x deadline) h.1 h.0.booked)
-              (subst (λ x. IsDeadline wanted.feed.now wanted.days.now x (nth_deadline offered k)) (sym same) (deadline_is k lt));
-          leaves = subst (λ x. ride.departs ≤ℤ x.departs) same c.2;
-          arrives = subst (λ x. x.arrives ≤ℤ ride.arrives) same (omega (arith, ints));
+          booked = subst (IsNoLater deadline) until c.covers.deadline;
+          arrives = subst (λ m. m ≤ℤ ride.arrives) (ap (λ r. r.arrives) same) c.covers.arrival;
         };
   }
 
@@ -314,42 +222,12 @@ module _ (wanted : Wanted) (leg : Ride) (day : ℤ) (run : Run) (sound : IsSound
       until = subst (λ x. IsDeadline wanted.feed.now wanted.days.now x deadline) h.1 h.0.booked;
     }
 
-    module _ (kept : Run) (some : 0 < kept.count) (how : kept.arrives ≡ cut.arrives)
-        (each : (departs arrives : ℤ) → IsInRun kept departs arrives → IsKept wanted.feed.now wanted.days.now leg cut wanted.asked wanted.earliest departs arrives) where
-      first_kept : IsKept wanted.feed.now wanted.days.now leg cut wanted.asked wanted.earliest (nth_departure kept 0) (arrival_then kept.arrives (nth_departure kept 0))
-      first_kept = each (nth_departure kept 0) (arrival_then kept.arrives (nth_departure kept 0)) (nth_in_run kept 0 some)
-
-      -- it is in the run of which it is kept
-      pub first_in_run : (k : ℕ) × (k < cut.count) × (kept.first ≡ nth_departure cut k)
-      first_in_run =
-          let r = first_kept.counts.open_until.is_open.in_run in
-          let then : nth_departure kept 0 ≡ nth_departure cut r.0 = r.2 in
-          (r.0, r.1, omega (arith, ints, then))
-
-      -- what is offered are the rides from the first one on that is kept
-      pub kept_run : (offered : Run) → AreRidesFrom cut kept.first offered
-          → ((departs arrives : ℤ) (deadline : Deadline) → IsOpenUntil wanted.feed.now wanted.days.now leg cut wanted.asked wanted.earliest departs arrives deadline
-          → IsCoveredBy wanted.feed.now wanted.days.now leg kept arrives deadline) → IsKeptRun wanted leg offered
-      kept_run offered rest covered = record {
-        some = rest.some;
-        departs = rest.departs;
-        single = rest.single;
-        each = λ departs arrives h.
-            let t = rest.each departs arrives h in
-            let there = (in_time departs arrives).0 t.0 in
-            let first = first_kept.counts.open_until.is_open in
-            let from = t.1 in
-            let earliest = first.not_before in (
-              record { permitted = permitted_in_run departs arrives there.0; boards = of.boards; leaves = omega (arith, ints, from, earliest); arrives = there.1 },
-              bookable_later wanted.feed.now wanted.days.now (ride_at leg (nth_departure kept 0) (arrival_then kept.arrives (nth_departure kept 0))) departs arrives wanted.asked (omega (arith, ints, from)) first.bookable,
-            );
-        covers = λ ride deadline h.
-            let o = wanted_open ride deadline h in
-            let c = covered ride.departs ride.arrives deadline o in
-            let first = subst (λ w. arrival_then w kept.first ≤ℤ c.then_arrives) how (first_arrives kept c.departs c.then_arrives c.in_run) in
-            let by = c.covers.arrival in
-            rest.covers ride.departs ride.arrives o.is_open.in_run (omega (arith, ints, first, by));
-      }
+    pub kept_reachable : (departs arrives : ℤ) → IsKept wanted.feed.now wanted.days.now leg cut wanted.asked wanted.earliest departs arrives
+        → IsReachable wanted (ride_at leg departs arrives) × IsBookable wanted.feed.now wanted.days.now (ride_at leg departs arrives) wanted.asked
+    kept_reachable departs arrives k =
+        let its = k.counts.open_until.is_open in
+        let there = (in_time departs arrives).0 its.in_run in
+        (record { permitted = permitted_in_run departs arrives there.0; boards = of.boards; leaves = its.not_before; arrives = there.1 }, its.bookable)
 
 -- where the leg has no run, no ride of it is wanted
 pub none_of_leg : (wanted : Wanted) (leg : Ride) (day : ℤ) → IsLegOf wanted leg → day ≡ leg.day → IsRunOf wanted.feed.now wanted.times.now wanted.days.now (leg_on leg day) None

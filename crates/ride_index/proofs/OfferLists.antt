@@ -16,7 +16,6 @@ covered_among xs ys ride deadline more c = record {
   low = c.low;
   alights = c.alights;
   booked = c.booked;
-  leaves = c.leaves;
   arrives = c.arrives;
 }
 

@@ -59,7 +59,6 @@ single_offer wanted ride deadline w = record {
         low = omega arith;
         alights = ap (λ r. r.alight) (sym h.1);
         booked = subst (IsNoLater d) (sym (single_deadline ride deadline)) (subst (IsNoLater d) same (IsNoLater_refl d));
-        leaves = (let e : ride.departs ≡ x.departs = ap (λ r. r.departs) (sym h.1) in omega (arith, ints));
         arrives = (let e : ride.arrives ≡ x.arrives = ap (λ r. r.arrives) (sym h.1) in omega (arith, ints));
       };
 }

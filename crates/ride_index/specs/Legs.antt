@@ -20,7 +20,7 @@ use Rattle.flex_model.specs.Booking.{IsBookable}
 use Rattle.flex_model.specs.Place.{IsStop}
 use Rattle.flex_model.specs.Run.{IsInRun}
 use Rattle.service_days.specs.Running.{IsRunning}
-use Rattle.booking_rules.specs.Departures.{HasOneAtMoment, LeavesInRange, ride_at}
+use Rattle.booking_rules.specs.Departures.{HasOneAtMoment, IsCoveredBy, LeavesInRange, ride_at}
 use Rattle.ride_index.specs.declared.departure.Departure.{Departure}
 use Rattle.ride_index.specs.declared.wanted.Wanted.{Wanted}
 use Rattle.ride_index.specs.OfferedRuns.{IsReachable, IsWantedRide}
@@ -48,25 +48,7 @@ pub record IsLegOf (wanted : Wanted) (leg : Ride) : Type 0 where
   pub boards : leg.board ≡ wanted.place
   pub alights : IsStop leg.alight ⊎ (leg.alight ≡ wanted.destination)
 
--- the run has a ride that arrives then and leaves no earlier
-abbrev pub HasNoEarlier : Run → ℤ → ℤ → Type 0
-HasNoEarlier run departs arrives =
-    (later : ℤ) × IsInRun run later arrives × (departs ≤ℤ later)
-
--- The other run has rides of the run alone that leave at this departure or later. For each ride that
--- arrives no earlier than the one with this departure it has one that arrives then too and leaves no
--- earlier. It has one ride, where all arrive at one moment.
-pub record AreRidesFrom (run : Run) (from : ℤ) (rest : Run) : Type 0 where
-  pub some : 0 < rest.count
-  pub departs : LeavesInRange rest
-  pub single : HasOneAtMoment rest
-  pub each : (departs arrives : ℤ) → IsInRun rest departs arrives
-      → IsInRun run departs arrives × (from ≤ℤ departs)
-  pub covers : (departs arrives : ℤ) → IsInRun run departs arrives
-      → arrival_then run.arrives from ≤ℤ arrives → HasNoEarlier rest departs arrives
-
--- The run has rides of the leg alone that are wanted, and for each wanted one a ride that arrives
--- then and leaves no earlier.
+-- The run has rides of the leg alone that are wanted, and covers all of them.
 pub record IsKeptRun (wanted : Wanted) (leg : Ride) (kept : Run) : Type 0 where
   pub some : 0 < kept.count
   pub departs : LeavesInRange kept
@@ -75,7 +57,7 @@ pub record IsKeptRun (wanted : Wanted) (leg : Ride) (kept : Run) : Type 0 where
       → IsReachable wanted (ride_at leg departs arrives)
       × IsBookable wanted.feed.now wanted.days.now (ride_at leg departs arrives) wanted.asked
   pub covers : (ride : Ride) (deadline : Deadline) → IsLegRide wanted leg ride deadline
-      → HasNoEarlier kept ride.departs ride.arrives
+      → IsCoveredBy wanted.feed.now wanted.days.now leg kept ride.arrives deadline
 
 -- the same leg to another place
 abbrev pub to_place : Ride → Place → Ride

@@ -3,9 +3,7 @@
 -- A ride is wanted from a place where it is permitted and bookable, boards there, leaves no earlier
 -- than a moment, arrives by a limit, and alights at a stop or at the destination. The runs that are
 -- offered have such rides alone, each with its deadline. Each wanted ride is covered by a ride of a
--- run that alights at the same place: that one can be booked no less late, leaves no earlier and
--- arrives no later. So what is offered from one moment on serves each later moment too: the rides of
--- it that leave then or later cover those that are wanted then.
+-- run that alights at the same place: that one can be booked no less late and arrives no later.
 --
 -- This project's own.
 use Rattle.std.specs.Prelude.{◌≡◌, ◌⊎◌, ℕ, ◌*◌, ◌<◌, pos, ◌+ℤ◌, ◌≤ℤ◌, List, ◌++◌, Contains}
@@ -34,8 +32,7 @@ nth_ride run k = record run.ride {
 abbrev pub nth_deadline : OfferedRun → ℕ → Deadline
 nth_deadline run k = lesser (later run.closes (60 * k)) run.latest
 
--- A run of the list has a ride to the same place that can be booked no less late, leaves no earlier
--- and arrives no later.
+-- a run of the list has a ride to the same place that can be booked no less late and arrives no later
 pub record IsCovered (runs : List OfferedRun) (ride : Ride) (deadline : Deadline) : Type 0 where
   pub run : OfferedRun
   pub among : Contains runs run
@@ -43,7 +40,6 @@ pub record IsCovered (runs : List OfferedRun) (ride : Ride) (deadline : Deadline
   pub low : at < run.count
   pub alights : run.ride.alight ≡ ride.alight
   pub booked : IsNoLater deadline (nth_deadline run at)
-  pub leaves : ride.departs ≤ℤ (nth_ride run at).departs
   pub arrives : (nth_ride run at).arrives ≤ℤ ride.arrives
 
 -- The runs have rides with the property alone, each with its deadline, and cover all of them.

@@ -5,7 +5,7 @@ ghost use Rattle.flex_model.specs.Run.{IsInRuns};
 ghost use Rattle.booking_rules.specs.Departures.{LeavesInRange, nth_departure, ride_at};
 ghost use Rattle.booking_rules.specs.Openings.{IsInRange};
 ghost use Rattle.flex_trips.specs.Windows.{HasWindowRow};
-ghost use Rattle.ride_index.specs.Legs.{AreRidesFrom, IsInTime, IsKeptRun, IsLegOf, IsLegRide, RunsThen, arrival_then};
+ghost use Rattle.ride_index.specs.Legs.{IsInTime, IsKeptRun, IsLegOf, IsLegRide, RunsThen, arrival_then};
 ghost use Rattle.ride_index.specs.OfferedRuns.{AreOffersOf, IsSoundWanted};
 
 use crate::offered_run::OfferedRun;
@@ -75,43 +75,13 @@ fn in_time(run: &Run, limit: Moment) -> Option<Run>
     Some(Run { count, ..*run })
 }
 
-// The departure of the run with this number.
-fn departure_of(run: &Run, number: u32) -> Moment
-    requires { IsInRange (nth_departure run.now number) }
-    ensures { result ≡ nth_departure run.now number }
-{
-    run.first + 60 * i64::from(number)
-}
-
-// The rides of the run that leave at this departure of it or later: all of them or, where all arrive
-// at one moment, the last one, which can be booked the longest.
-fn rides_from(run: &Run, from: Moment) -> Run
-    requires departs { LeavesInRange run.now }
-    requires from { (k : ℕ) × (k < run.now.count) × (from ≡ nth_departure run.now k) }
-    ensures { AreRidesFrom run.now from result }
-{
-    let last = departure_of(run, run.count - 1);
-    match run.arrives {
-        Arrives::After(_) => Run {
-            first: from,
-            count: minutes_to(from, last),
-            arrives: run.arrives,
-        },
-        Arrives::At(_) => Run {
-            first: last,
-            count: 1,
-            arrives: run.arrives,
-        },
-    }
-}
-
 // The ride of the leg at the departure of the run with this number.
 fn ride_then(leg: &Ride, run: &Run, number: u32) -> Ride
     requires { IsInRange (nth_departure run.now number) }
     ensures { result ≡ ride_at leg.now (nth_departure run.now number)
         (arrival_then run.now.arrives (nth_departure run.now number)) }
 {
-    let departs = departure_of(run, number);
+    let departs = run.first + 60 * i64::from(number);
     Ride {
         departs,
         arrives: arrival(run.arrives, departs),
@@ -143,7 +113,6 @@ fn offer_of_kept(wanted: &Wanted<'_>, leg: &Ride, kept: &Run) -> Option<OfferedR
 }
 
 // The offer of the rides of the leg, of which one record has a window and whose trip runs on its day.
-// Rides that can be booked no longer than an earlier one are offered too, for who can't leave so early.
 pub(crate) fn offer_of_leg(wanted: &Wanted<'_>, leg: &Ride) -> Option<OfferedRun>
     requires wanted { IsSoundWanted wanted.now }
     requires leg { IsLegOf wanted.now leg.now }
@@ -177,6 +146,5 @@ pub(crate) fn offer_of_leg(wanted: &Wanted<'_>, leg: &Ride) -> Option<OfferedRun
     ) else {
         return None;
     };
-    let offered = rides_from(&run, kept.first);
-    offer_of_kept(wanted, leg, &offered)
+    offer_of_kept(wanted, leg, &kept)
 }

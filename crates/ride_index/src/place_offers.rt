@@ -249,8 +249,8 @@ pub fn offers_after(
     Ok(())
 }
 
-/// The same where nothing was boarded before: each such ride is covered by a ride of a run, which also leaves no
-/// earlier. So one list serves each later moment at the place too, by its rides from then on.
+/// The same where nothing was boarded before: for each such ride one of the list alights at the same place, can be booked no
+/// less late and arrives no later.
 pub fn offers_from(
     alloc: Global,
     index: &RideIndex,

@@ -32,14 +32,14 @@ use Rattle.round_engine.proofs.Flats.{entry_of, in_earlier, in_last, in_round_ra
 use Rattle.flex_model.proofs.Extensions.{alights_at}
 use Rattle.round_engine.proofs.Steps.{held_weaker}
 
-stop_within : (task : Task) → IsSoundTask task → (s : ℕ) → IsLabelPlace task.feed.now task.query.now (Stop s) → s < length task.feed.now.stops
+pub stop_within : (task : Task) → IsSoundTask task → (s : ℕ) → IsLabelPlace task.feed.now task.query.now (Stop s) → s < length task.feed.now.stops
 stop_within task sound s (inl boards) = slice_get_within task.feed.now.stops s boards.0 boards.1
 stop_within task sound s (inr e) =
     let boards : HasBoards task.feed.now s = subst (IsQueryPlace task.feed.now task.times.now) (sym e) sound.query.destination in
     slice_get_within task.feed.now.stops s boards.0 boards.1
 
 -- places of labels are told apart by their numbers
-same_place : (task : Task) → IsSoundTask task → (a b : Place) → IsLabelPlace task.feed.now task.query.now a → IsLabelPlace task.feed.now task.query.now b
+pub same_place : (task : Task) → IsSoundTask task → (a b : Place) → IsLabelPlace task.feed.now task.query.now a → IsLabelPlace task.feed.now task.query.now b
     → number_of (length task.feed.now.stops) a ≡ number_of (length task.feed.now.stops) b → a ≡ b
 same_place task sound (Stop s) (Stop t) h i e = ap Stop e
 same_place task sound (Stop s) (Point p) h i e = (let lt = stop_within task sound s h in absurd (omega arith))

@@ -1,11 +1,11 @@
 -- From the run of the leg to what is kept of it.
-use Rattle.std.proofs.Common.{◌≡◌, ◌↔◌, ℕ, ◌<◌, ℤ, w32, w64, to_z, of_z, rules, SFits, sym, subst}
+use Rattle.std.proofs.Common.{◌≡◌, ◌↔◌, ℤ, w32, w64, to_z, of_z, rules, SFits, sym, subst}
 use Rattle.std.proofs.lemmas.Int.{to_z-of_z}
 use Rattle.std.proofs.lemmas.Option.{slice_get_within}
 use Rattle.flex_model.specs.Run.{IsInRun}
-use Rattle.booking_rules.specs.Departures.{IsKept, IsOpen, IsOpenUntil, nth_departure}
-use Rattle.ride_index.specs.Legs.{AreRidesFrom, IsInTime, IsLegRide}
-use Rattle.ride_index.proofs.LegRuns.{first_in_run, kept_run, none_of_leg, nth_in_run, permitted_in_run, run_in_range, wanted_in_run, wanted_open}
+use Rattle.booking_rules.specs.Departures.{IsKept, IsOpen, IsOpenUntil}
+use Rattle.ride_index.specs.Legs.{IsInTime, IsLegRide}
+use Rattle.ride_index.proofs.LegRuns.{kept_reachable, none_of_leg, nth_in_run, permitted_in_run, run_in_range, wanted_in_run, wanted_open}
 use Rattle.ride_index.proofs.OfferLists.{no_offers}
 use Rattle.ride_index.proofs.legs.offer_of_leg.Goals as goal
 
@@ -65,26 +65,6 @@ returns-in_default-narrow c =
     (subst (λ a. IsOpen w.feed.now w.days.now leg cut a (to_z w64 (of_z w64 w.earliest)) ride.departs ride.arrives) (sym (to_z-of_z w64 w.asked asked_fits))
     (subst (λ e. IsOpen w.feed.now w.days.now leg cut w.asked e ride.departs ride.arrives) (sym (to_z-of_z w64 w.earliest earliest_fits)) o.is_open)))
 
-pub rides_from-offered-requires-clause-from : goal.rides_from-offered-requires-clause-from
-rides_from-offered-requires-clause-from c =
-    let w = c.args.wanted.now in
-    let leg = c.args.leg.now in
-    let cut = c.in-Some-in_time.run' in
-    let kept = c.in-Some-narrow.kept in
-    let fits : SFits w32 leg.day = search rules in
-    let limit_fits : SFits w64 w.limit = search rules in
-    let asked_fits : SFits w64 w.asked = search rules in
-    let earliest_fits : SFits w64 w.earliest = search rules in
-    let first_fits : SFits w64 kept.first = search rules in
-    let rides : (departs arrives : ℤ) → IsInRun cut departs arrives ↔ IsInTime c.in-Some.run' w.limit departs arrives =
-    subst (λ l. (departs arrives : ℤ) → IsInRun cut departs arrives ↔ IsInTime c.in-Some.run' l departs arrives) (to_z-of_z w64 w.limit limit_fits) c.in-Some-in_time.ensures.rides in
-    let n = c.in-Some-narrow.ensures in
-    subst (λ f. (k : ℕ) × (k < cut.count) × (f ≡ nth_departure cut k)) (sym (to_z-of_z w64 kept.first first_fits))
-    (first_in_run w leg (to_z w32 (of_z w32 leg.day)) c.in-Some.run' c.requires.wanted c.requires.leg (to_z-of_z w32 leg.day fits) c.in-Some.ensures cut rides kept n.some n.arrives
-    (λ departs arrives h.
-    subst (λ a. IsKept w.feed.now w.days.now leg cut a w.earliest departs arrives) (to_z-of_z w64 w.asked asked_fits)
-    (subst (λ e. IsKept w.feed.now w.days.now leg cut (to_z w64 (of_z w64 w.asked)) e departs arrives) (to_z-of_z w64 w.earliest earliest_fits) ((n.kept departs arrives).0 h))))
-
 pub offer_of_kept-requires-clause-kept : goal.offer_of_kept-requires-clause-kept
 offer_of_kept-requires-clause-kept c =
     let w = c.args.wanted.now in
@@ -95,18 +75,23 @@ offer_of_kept-requires-clause-kept c =
     let limit_fits : SFits w64 w.limit = search rules in
     let asked_fits : SFits w64 w.asked = search rules in
     let earliest_fits : SFits w64 w.earliest = search rules in
-    let first_fits : SFits w64 kept.first = search rules in
     let asked : to_z w64 (of_z w64 w.asked) ≡ w.asked = to_z-of_z w64 w.asked asked_fits in
     let earliest : to_z w64 (of_z w64 w.earliest) ≡ w.earliest = to_z-of_z w64 w.earliest earliest_fits in
     let rides : (departs arrives : ℤ) → IsInRun cut departs arrives ↔ IsInTime c.in-Some.run' w.limit departs arrives =
     subst (λ l. (departs arrives : ℤ) → IsInRun cut departs arrives ↔ IsInTime c.in-Some.run' l departs arrives) (to_z-of_z w64 w.limit limit_fits) c.in-Some-in_time.ensures.rides in
     let n = c.in-Some-narrow.ensures in
-    kept_run w leg (to_z w32 (of_z w32 leg.day)) c.in-Some.run' c.requires.wanted c.requires.leg (to_z-of_z w32 leg.day fits) c.in-Some.ensures cut rides kept n.some n.arrives
-    (λ departs arrives h.
-    subst (λ a. IsKept w.feed.now w.days.now leg cut a w.earliest departs arrives) asked
-    (subst (λ e. IsKept w.feed.now w.days.now leg cut (to_z w64 (of_z w64 w.asked)) e departs arrives) earliest ((n.kept departs arrives).0 h)))
-    c.rides_from-offered.result
-    (subst (λ f. AreRidesFrom cut f c.rides_from-offered.result) (to_z-of_z w64 kept.first first_fits) c.rides_from-offered.ensures)
-    (λ departs arrives deadline o. n.covered departs arrives deadline
-    (subst (λ a. IsOpenUntil w.feed.now w.days.now leg cut a (to_z w64 (of_z w64 w.earliest)) departs arrives deadline) (sym asked)
-    (subst (λ e. IsOpenUntil w.feed.now w.days.now leg cut w.asked e departs arrives deadline) (sym earliest) o)))
+    record {
+      some = n.some;
+      departs = n.departs;
+      single = n.single;
+      each = λ departs arrives h.
+          let k = (n.kept departs arrives).0 h in
+          kept_reachable w leg (to_z w32 (of_z w32 leg.day)) c.in-Some.run' c.requires.wanted c.requires.leg (to_z-of_z w32 leg.day fits) c.in-Some.ensures cut rides departs arrives
+          (subst (λ a. IsKept w.feed.now w.days.now leg cut a w.earliest departs arrives) asked
+          (subst (λ e. IsKept w.feed.now w.days.now leg cut (to_z w64 (of_z w64 w.asked)) e departs arrives) earliest k));
+      covers = λ ride deadline h.
+          let o = wanted_open w leg (to_z w32 (of_z w32 leg.day)) c.in-Some.run' c.requires.wanted c.requires.leg (to_z-of_z w32 leg.day fits) c.in-Some.ensures cut rides ride deadline h in
+          n.covered ride.departs ride.arrives deadline
+          (subst (λ a. IsOpenUntil w.feed.now w.days.now leg cut a (to_z w64 (of_z w64 w.earliest)) ride.departs ride.arrives deadline) (sym asked)
+          (subst (λ e. IsOpenUntil w.feed.now w.days.now leg cut w.asked e ride.departs ride.arrives deadline) (sym earliest) o));
+    }
