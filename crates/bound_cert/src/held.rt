@@ -52,8 +52,9 @@ fn look_at_trip_rows(trips: &[Trip])
     }
 }
 
-// Looks at each id and each `stop_sequence` once.
-pub(crate) fn look_at(feed: &Feed, times: &Times)
+/// Looks at each id and each `stop_sequence` of a feed and its times once: ids are UTF-8, and
+/// values of `stop_sequence` have 32 bits.
+pub fn look_at(feed: &Feed, times: &Times)
     ensures { AreHeld feed.now times.now }
 {
     look_at_stops(feed.stops.as_slice());

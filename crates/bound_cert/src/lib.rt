@@ -4,6 +4,7 @@
 mod cert;
 mod error;
 mod held;
+mod held_part;
 mod known;
 mod last_words;
 mod laws;
@@ -16,6 +17,8 @@ mod write;
 
 pub use cert::{Cert, CertLabel, CertPart, CertRound};
 pub use error::CertError;
+pub use held::look_at;
+pub use held_part::look_at_part;
 pub use laws::{certificates_are_read_by_lines, syntax_faults_have_one_line};
 pub use read::read_cert;
 pub use write::{write_cert, write_heading, write_part};

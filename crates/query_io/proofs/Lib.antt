@@ -1,6 +1,6 @@
 pub mod PrintedAnswers
 mod PrintedLines
-mod PrintedRides
+pub mod PrintedRides
 pub mod NamedPlaces
 pub mod QueryMoments
 pub mod QueryRecords

@@ -88,7 +88,7 @@ module _ (feed : Feed) (times : Times) (sound : IsSoundFeed feed) (sound_times :
         let horizon = sound_query.horizon in
         record { low = omega (arith, ints); high = omega (arith, ints) }
 
-    ride_printed : (ride : Ride) → IsPermittedRide feed times days ride → IsPrintableMoment ride.departs → IsPrintableMoment ride.arrives → IsPrintableRide feed times ride
+    pub ride_printed : (ride : Ride) → IsPermittedRide feed times days ride → IsPrintableMoment ride.departs → IsPrintableMoment ride.arrives → IsPrintableRide feed times ride
     ride_printed ride permitted departs arrives =
         let trip = permitted.trip in
         let rows = (All-at (IsSoundTrip feed) feed.trips ride.trip trip sound.each_trip permitted.of_trip).rows in

@@ -22,16 +22,17 @@ pub fn place_id<'a>(feed: &'a Feed, times: &'a Times, place: Place) -> &'a str
     }
 }
 
-// The `stop_sequence` of a record of a trip.
-fn sequence(trip: &Trip, row: u32) -> u64
+/// The `stop_sequence` of the record of a trip that has this place in the order of its records,
+/// counted from 0.
+pub fn sequence(trip: &Trip, row: u32) -> u64
     requires { row < length trip.now.rows }
     ensures { decimal result ≡ sequence_text trip.now row }
 {
     u64::from(trip.rows[row as usize].sequence)
 }
 
-// The start of a ride, where it has one.
-fn start_word(start: Option<u32>) -> Option<Word<'static>>
+/// The word of the start of a ride, in seconds of the service day, where it has one.
+pub fn start_word(start: Option<u32>) -> Option<Word<'static>>
     ensures printable { IfSome result IsPrintableWord }
     ensures text { map word_text (option_to_list result) ≡ start_words start }
 {
