@@ -8,3 +8,4 @@ pub mod Modest
 pub mod Laws
 pub mod Ways
 pub mod Places
+pub mod RefusalText
