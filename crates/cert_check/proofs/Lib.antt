@@ -9,3 +9,4 @@ pub mod EndsFound
 pub mod FoundTests
 pub mod HeldRides
 pub mod WaysHeld
+pub mod PrintedReasons

@@ -6,7 +6,11 @@ use Rattle.flex_model.specs.declared.feed.Feed.{Feed}
 use Rattle.flex_model.specs.declared.moment.DayTable.{DayTable}
 use Rattle.flex_model.specs.declared.query.Query.{Query}
 use Rattle.flex_model.specs.declared.times.Times.{Times}
+use Rattle.flex_model.specs.SoundFeed.{IsSoundFeed}
+use Rattle.flex_model.specs.SoundQuery.{IsDayTableOf, IsSoundDayTable, IsSoundQuery}
+use Rattle.flex_model.specs.SoundTimes.{AreSoundTimes}
 use Rattle.cert_check.specs.Reasons.{Applies, IsValidPart, Passes}
+use Rattle.cert_check.specs.RefusalText.{IsPrintableReason}
 
 -- A part is valid just where it passes each test.
 abbrev pub ValidPartsPass : Type 0
@@ -20,3 +24,13 @@ ReasonsAreFailedTests =
     (feed : Feed) (times : Times) (days : DayTable) (query : Query) (part : CertPart)
     (reason : Reason)
     → Applies feed times days query part reason → Passes feed times days query part reason → ⊥
+
+-- Over sound values, with a day table that is the query's, each reason that is true of a part has a
+-- printed text.
+abbrev pub ReasonsArePrintable : Type 0
+ReasonsArePrintable =
+    (feed : Feed) (times : Times) (days : DayTable) (query : Query) (part : CertPart)
+    (reason : Reason)
+    → IsSoundFeed feed → AreSoundTimes feed times → IsSoundDayTable days → IsDayTableOf query days
+    → IsSoundQuery feed times query
+    → Applies feed times days query part reason → IsPrintableReason feed times reason

@@ -17,6 +17,6 @@ mod task;
 mod ways;
 
 pub use checker::check;
-pub use laws::{reasons_are_failed_tests, valid_parts_pass};
+pub use laws::{reasons_are_failed_tests, reasons_are_printable, valid_parts_pass};
 pub use reason::{Reason, Verdict};
 pub use refusal::write_refusal;
