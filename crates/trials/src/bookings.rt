@@ -3,14 +3,14 @@
 ghost use Rattle.std.specs.Prelude.{IsTrue};
 ghost use Rattle.booking_rules.specs.Ends.{HasRows};
 
-use crate::judged::{
-    AGENCY, CALENDAR, DAY_BEFORE, EIGHT, GROUPS, MEMBERS, ONE_TRIP, RIDE, ROUTES, STOPS, june_days,
-};
-use crate::samples::read_feed;
+use crate::loaded::read_feed;
 use booking_rules::{Opening, bookable, closing, opening};
 use flex_model::{Deadline, Feed, Moment, Ride};
 use service_days::is_travel_day;
 use std::test::Fail;
+use trial_feeds::{
+    AGENCY, CALENDAR, DAY_BEFORE, EIGHT, GROUPS, MEMBERS, ONE_TRIP, RIDE, ROUTES, STOPS, june_days,
+};
 
 // Rules 1 and 3 count on the service W, which doesn't run on Friday, 6 June, and rules 4 and 5 on V, which runs on 4 June
 // alone.

@@ -4,14 +4,14 @@ ghost use Rattle.std.specs.Prelude.{IfOk};
 ghost use Rattle.flex_model.specs.SoundFeed.{IsSoundFeed};
 ghost use Rattle.flex_model.specs.SoundTimes.{AreSoundTimes};
 
-use crate::judged::{AGENCY, CALENDAR, ROUTES, STOPS, UTC};
-use crate::samples::{read_feed, read_times};
+use crate::loaded::{read_feed, read_times};
 use bound_cert::{CertError, read_cert, write_cert, write_heading, write_part};
 use flex_model::{Deadline, Feed, NoMemory, Place, Text, Times};
 use query_io::lines::{read_deadline, read_place};
 use std::alloc::Global;
 use std::process::Abort;
 use std::test::Fail;
+use trial_feeds::{AGENCY, CALENDAR, ROUTES, STOPS, UTC};
 
 const TRIPS: (&str, &[u8]) = (
     "a/trips.txt",

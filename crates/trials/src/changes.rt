@@ -1,6 +1,6 @@
 // Changes between rides, and the walks from the origin and to the destination.
 
-use crate::samples::{queries_of, sample_feed, sample_times};
+use crate::loaded::{queries_of, sample_feed, sample_times};
 use flex_model::Place;
 use std::test::Fail;
 use transfers::{access, change, egress};

@@ -1,6 +1,6 @@
 // Service days: when they begin, which of them a service runs on, and how they are counted back.
 
-use crate::samples::sample_feed;
+use crate::loaded::sample_feed;
 use flex_model::{Listed, Moment, NoMemory, Service, Text};
 use service_days::{
     ZoneForm, ZoneRefusal, active, begin, count_back, day_table, days_back, first_travel_day,

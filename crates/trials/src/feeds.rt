@@ -1,12 +1,11 @@
 // Feeds of folders.
 
-use crate::judged::{AGENCY, CALENDAR, DAY_AHEAD, ONE_TRIP, ROUTES, STOPS};
-use crate::samples::{FEED, files_of};
-use crate::zoned::{BY_TEN, ZONE, zone_feed};
+use crate::loaded::{FEED, files_of, zone_feed};
 use feed_load::{GivenRow, Loaded, fill_times, load};
 use flex_io::LoadError;
 use flex_model::{Fault, FaultCode, Feed, InputFile, Listed, Spot};
 use std::test::Fail;
+use trial_feeds::{AGENCY, BY_TEN, CALENDAR, DAY_AHEAD, ONE_TRIP, ROUTES, STOPS, ZONE};
 
 fn clean(loaded: Loaded) -> Option<Feed> {
     match loaded {

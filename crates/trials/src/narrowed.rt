@@ -4,14 +4,14 @@ ghost use Rattle.std.specs.Prelude.{◌<◌, IsTrue};
 ghost use Rattle.booking_rules.specs.Departures.{LeavesInRange};
 
 use crate::bookings::has_rows;
-use crate::judged::{
-    AGENCY, CALENDAR, DAY_BEFORE, EIGHT, GROUPS, MEMBERS, RIDE, ROUTES, STOPS, june_days,
-};
-use crate::samples::read_feed;
+use crate::loaded::read_feed;
 use booking_rules::narrow;
 use flex_model::{Arrives, Moment, Ride, Run};
 use service_days::is_travel_day;
 use std::test::Fail;
+use trial_feeds::{
+    AGENCY, CALENDAR, DAY_BEFORE, EIGHT, GROUPS, MEMBERS, RIDE, ROUTES, STOPS, june_days,
+};
 
 const TRIPS: (&str, &[u8]) = (
     "a/trips.txt",

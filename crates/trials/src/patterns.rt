@@ -1,10 +1,10 @@
 // The patterns of trips, and their first rides.
 
-use crate::judged::{AGENCY, EIGHT, M, N, ROUTES, june_days};
-use crate::samples::read_feed;
+use crate::loaded::read_feed;
 use fixed_trips::PatternTable;
 use flex_model::Ride;
 use std::test::Fail;
+use trial_feeds::{AGENCY, EIGHT, M, N, ROUTES, june_days};
 
 const STOPS: (&str, &[u8]) = (
     "a/stops.txt",

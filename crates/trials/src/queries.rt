@@ -3,7 +3,7 @@
 ghost use Rattle.flex_model.specs.SoundFeed.{IsSoundFeed};
 ghost use Rattle.flex_model.specs.SoundTimes.{AreSoundTimes};
 
-use crate::samples::{queries_of, query_file, sample_feed, sample_times};
+use crate::loaded::{queries_of, query_file, sample_feed, sample_times};
 use flex_model::{Fault, FaultCode, Feed, InputFile, Listed, Place, Times};
 use query_io::ReadQueries;
 use std::alloc::Global;

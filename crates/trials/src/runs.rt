@@ -4,23 +4,17 @@ ghost use Rattle.std.specs.Prelude.{All, IfSome, IsTrue};
 ghost use Rattle.flex_model.specs.SoundFeed.{IsSoundFeed, IsSoundRepeat};
 ghost use Rattle.fixed_trips.specs.Timed.{HasTimedRow};
 
-use crate::judged::{AGENCY, CALENDAR, EIGHT, M, N, ONE_TRIP, ROUTES, STOPS, june_days};
-use crate::samples::read_feed;
+use crate::loaded::read_feed;
 use fixed_trips::fixed_run;
 use flex_model::{Arrives, Feed, Moment, Run, Trip};
 use freq_trips::{is_start, is_timed, next_start, shift};
 use std::test::Fail;
+use trial_feeds::{AGENCY, CALENDAR, EIGHT, HEADWAYS, M, N, ONE_TRIP, ROUTES, STOPS, june_days};
 
 // F1 goes from M at 08:00:00 to N at 08:20:00.
 const STOP_TIMES: (&str, &[u8]) = (
     "a/stop_times.txt",
     b"trip_id,stop_sequence,stop_id,arrival_time,departure_time\nF1,1,M,08:00:00,08:00:00\nF1,2,N,08:20:00,08:20:00\n",
-);
-
-// It starts every ten minutes, first at 08:05:00 and last at 08:25:00.
-const HEADWAYS: (&str, &[u8]) = (
-    "a/frequencies.txt",
-    b"trip_id,start_time,end_time,headway_secs\nF1,08:05:00,08:30:00,600\n",
 );
 
 // The first trip of the feed.

@@ -1,6 +1,6 @@
 // Times folders.
 
-use crate::samples::{loaded_times, sample_feed};
+use crate::loaded::{loaded_times, sample_feed};
 use flex_io::LoadError;
 use flex_model::{Fault, FaultCode, InputFile, Listed, Moment, Place, Position, Span, Times};
 use place_times::LoadedTimes;

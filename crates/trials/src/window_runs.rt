@@ -3,16 +3,16 @@
 ghost use Rattle.std.specs.Prelude.{IsTrue};
 ghost use Rattle.flex_trips.specs.Windows.{HasWindowRow};
 
-use crate::judged::{
-    AGENCY, CALENDAR, EIGHT, GROUPS, M, MEMBERS, N, ONE_TRIP, P, ROUTES, STOPS, UTC, june_days,
-};
-use crate::samples::{read_feed, read_times};
+use crate::loaded::{read_feed, read_times};
 use flex_model::{Arrives, Feed, Moment, Place, Run};
 use flex_trips::flex_run;
 use freq_trips::is_timed;
 use std::alloc::Global;
 use std::process::Abort;
 use std::test::Fail;
+use trial_feeds::{
+    AGENCY, CALENDAR, EIGHT, GROUPS, M, MEMBERS, N, ONE_TRIP, P, ROUTES, STOPS, UTC, june_days,
+};
 
 /// Whether the feed has the two records of its trip, and one of them has a window.
 pub(crate) fn has_window_row(feed: &Feed, trip: u32, from_row: u32, to_row: u32) -> bool

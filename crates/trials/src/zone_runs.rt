@@ -1,18 +1,17 @@
 // Runs from points to the stop M in a zone, and what counts of them for one who books.
 
 use crate::bookings::has_rows;
-use crate::judged::{
-    AGENCY, CALENDAR, DAY_BEFORE, EIGHT, M, P, RIDE, ROUTES, STOPS, UTC, june_days,
-};
+use crate::loaded::{read_feed, read_times};
 use crate::narrowed::is_in_range;
-use crate::samples::{read_feed, read_times};
 use crate::window_runs::has_window_row;
-use crate::zoned::ZONE;
 use booking_rules::narrow;
 use flex_model::{Arrives, Moment, Place, Ride, Run};
 use flex_trips::flex_run;
 use service_days::is_travel_day;
 use std::test::Fail;
+use trial_feeds::{
+    AGENCY, CALENDAR, DAY_BEFORE, EIGHT, M, P, RIDE, ROUTES, STOPS, UTC, ZONE, june_days,
+};
 
 const TRIPS: (&str, &[u8]) = (
     "a/trips.txt",

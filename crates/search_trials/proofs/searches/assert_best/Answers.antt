@@ -1,7 +1,7 @@
 use mir.Syntax.{w64}
 use Rattle.std.proofs.Common.{rules, sym}
 use Rattle.std.proofs.lemmas.Int.{to_z-of_z}
-use Rattle.trials.proofs.searches.assert_best.Goals as goal
+use Rattle.search_trials.proofs.searches.assert_best.Goals as goal
 
 pub search-requires-clause-of_query : goal.search-requires-clause-of_query
 search-requires-clause-of_query g c =

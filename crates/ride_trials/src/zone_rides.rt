@@ -1,19 +1,12 @@
 // What is judged of rides and journeys in a zone.
 
-use crate::judged::{DAY_BEFORE, EIGHT, M, N, P, RIDE, arrival, june_days};
-use crate::samples::queries_of;
-use crate::zoned::{
-    BY_TEN, BY_TEN_PAST_EIGHT, INSIDE, OUTSIDE, TEN_MINUTES, zone_feed, zone_times,
-};
+use crate::loaded::{queries_of, zone_feed, zone_times};
 use flex_model::{Deadline, JourneyFlaw, Place, Ride, RideFlaw};
 use journey_judge::{judge_journey, judge_ride};
 use std::test::Fail;
-
-// From P at 08:00:00 to M at 08:10:00.
-const TO_M: Ride = Ride {
-    board: P,
-    alight: M,
-    ..RIDE
+use trial_feeds::{
+    BY_TEN, BY_TEN_PAST_EIGHT, DAY_BEFORE, EIGHT, INSIDE, M, N, OUTSIDE, P, TEN_MINUTES, TO_M,
+    arrival, june_days,
 };
 
 #[test]

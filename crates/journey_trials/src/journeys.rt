@@ -2,19 +2,41 @@
 
 ghost use Rattle.std.specs.Prelude.{◌≤ℤ◌, pos};
 
-use crate::judged::{
-    AGENCY, CALENDAR, DAY_AHEAD, DAY_BEFORE, EIGHT, GROUPS, M, MEMBERS, N, O, ONE_TRIP, Q, RIDE,
-    ROUTES, STOPS, UTC, arrival, assert_journeys,
-};
+use crate::loaded::{queries_of, read_feed, read_times};
 use flex_model::{Deadline, JourneyFlaw, Moment, Place, Ride, RideFlaw, Triple};
+use journey_judge::judge_journey;
 use std::alloc::Global;
 use std::process::Abort;
 use std::test::Fail;
+use trial_feeds::{
+    AGENCY, CALENDAR, DAY_AHEAD, DAY_BEFORE, DIRECT, EIGHT, GROUPS, M, MEMBERS, N, O, ONE_TRIP,
+    POINTS, Q, RIDE, ROUTES, STOPS, UTC, X1, X2, arrival, changing, june_days,
+};
 
-const POINTS: (&str, &[u8]) = (
-    "t/points.txt",
-    b"point_id,point_lat,point_lon\nP,50,5\nD,50,5.04\n",
-);
+// Asserts what is judged of rides as journeys of queries, which are records of a query file.
+fn assert_journeys(
+    rt: &impl Abort,
+    alloc: Global,
+    feed: &[(&str, &[u8])],
+    times: &[(&str, &[u8])],
+    cases: &[(&str, &[Ride], Result<Triple, JourneyFlaw>)],
+) -> Result<(), Fail> {
+    let feed = read_feed(alloc, feed)?;
+    let times = read_times(alloc, &feed, times)?;
+    let days = june_days(alloc)?;
+    for (record, rides, answer) in cases {
+        let queries = queries_of(alloc, &feed, &times, record)?;
+        for query in &queries {
+            assert_eq!(rt;
+                judge_journey(&feed, &times, &days, query, rides),
+                *answer,
+                "{record} {rides:?}"
+            );
+        }
+        assert_eq!(rt; queries.len(), 1);
+    }
+    Ok(())
+}
 
 // F1 is a ride of the group G, X1 goes from M to N, X2 from O to Q, and X3 from N to Q.
 const TRIPS: (&str, &[u8]) = (
@@ -31,42 +53,15 @@ const STOP_TIMES: (&str, &[u8]) = (
       X3,1,N,,08:25:00,08:25:00,,,,,,\nX3,2,Q,,08:40:00,08:40:00,,,,,,\n",
 );
 
-const DIRECT: (&str, &[u8]) = ("t/direct.txt", b"from_id,to_id,seconds\nM,N,600\n");
-
 const WALKS: (&str, &[u8]) = ("t/walks.txt", b"from_id,to_id,seconds\nQ,D,1200\n");
 
 const F1: Ride = RIDE;
-
-const X1: Ride = Ride {
-    trip: 1,
-    arrives: EIGHT + 1_200,
-    ..RIDE
-};
-
-const X2: Ride = Ride {
-    trip: 2,
-    board: O,
-    alight: Q,
-    departs: EIGHT + 1_500,
-    arrives: EIGHT + 2_400,
-    ..RIDE
-};
 
 const X3: Ride = Ride {
     trip: 3,
     board: N,
     ..X2
 };
-
-// The triple that changes once and arrives at 09:00:00.
-const fn changing(walk: u32) -> Triple {
-    Triple {
-        deadline: Deadline::Never,
-        arrival: EIGHT + 3_600,
-        transfers: 1,
-        walk,
-    }
-}
 
 // From M to the point D, with the end of the record as it is asked.
 const TO_D: &str = "M,D,q1,2025-06-04T08:00:00Z,2025-06-03T12:00:00Z,1,60,0\n";

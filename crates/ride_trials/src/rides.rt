@@ -1,11 +1,32 @@
 // What is judged of rides.
 
-use crate::judged::{
-    AGENCY, CALENDAR, DAY_AHEAD, EIGHT, GROUPS, M, MEMBERS, N, O, ONE_TRIP, P, RIDE, ROUTES, STOPS,
-    UTC, assert_rides,
-};
+use crate::loaded::{read_feed, read_times};
 use flex_model::{Place, Ride, RideFlaw};
+use journey_judge::judge_ride;
+use std::alloc::Global;
+use std::process::Abort;
 use std::test::Fail;
+use trial_feeds::{
+    AGENCY, CALENDAR, DAY_AHEAD, DIRECT, EIGHT, GROUPS, HEADWAYS, M, MEMBERS, N, O, ONE_TRIP, P,
+    POINTS, RIDE, ROUTES, STOPS, UTC, june_days,
+};
+
+// Asserts what is judged of rides of the feed of these files.
+fn assert_rides(
+    rt: &impl Abort,
+    alloc: Global,
+    feed: &[(&str, &[u8])],
+    times: &[(&str, &[u8])],
+    cases: &[(Ride, Result<(), RideFlaw>)],
+) -> Result<(), Fail> {
+    let feed = read_feed(alloc, feed)?;
+    let times = read_times(alloc, &feed, times)?;
+    let days = june_days(alloc)?;
+    for (ride, answer) in cases {
+        assert_eq!(rt; judge_ride(&feed, &times, &days, ride), *answer, "{ride:?}");
+    }
+    Ok(())
+}
 
 // F1 goes from M at 08:00:00 to N at 08:10:00.
 const AT_TIMES: (&str, &[u8]) = (
@@ -172,13 +193,6 @@ const IN_WINDOWS: (&str, &[u8]) = (
     b"trip_id,stop_sequence,location_group_id,start_pickup_drop_off_window,end_pickup_drop_off_window,pickup_type,drop_off_type,pickup_booking_rule_id,drop_off_booking_rule_id\n\
       F1,1,G,08:00:00,10:00:00,2,1,B,\nF1,2,G,08:00:00,10:00:00,1,2,,B\n",
 );
-
-const POINTS: (&str, &[u8]) = (
-    "t/points.txt",
-    b"point_id,point_lat,point_lon\nP,50,5\nD,50,5.04\n",
-);
-
-const DIRECT: (&str, &[u8]) = ("t/direct.txt", b"from_id,to_id,seconds\nM,N,600\n");
 
 #[test]
 fn a_ride_between_windows_takes_the_direct_time(rt: HostRuntime) -> Result<(), Fail> {
@@ -422,12 +436,6 @@ fn a_ride_from_a_time_to_a_window_arrives_in_it(rt: HostRuntime) -> Result<(), F
     )];
     assert_rides(&rt, rt.alloc(), &feed, &[UTC, HOUR_AND_MORE], &late)
 }
-
-// Every ten minutes, first at 08:05:00 and last at 08:25:00.
-const HEADWAYS: (&str, &[u8]) = (
-    "a/frequencies.txt",
-    b"trip_id,start_time,end_time,headway_secs\nF1,08:05:00,08:30:00,600\n",
-);
 
 #[test]
 fn a_ride_of_a_repeated_trip_has_one_of_its_starts(rt: HostRuntime) -> Result<(), Fail> {

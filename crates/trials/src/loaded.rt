@@ -1,4 +1,4 @@
-// The feed that most tests read, with its times and its queries, and files in memory.
+// The feed that most tests read, with its times and its queries, and what is loaded of files in memory.
 
 ghost use Rattle.std.specs.Prelude.{IfOk, All};
 ghost use Rattle.flex_model.specs.SoundFeed.{IsSoundFeed};
@@ -13,6 +13,7 @@ use place_times::{LoadedTimes, load_times};
 use query_io::{ReadQueries, read_queries};
 use std::alloc::Global;
 use std::test::Fail;
+use trial_feeds::{AGENCY, CALENDAR, DAY_AHEAD, ONE_TRIP, QUERIES, ROUTES, STOPS, ZONE};
 
 /// Stops M, N, O and Q, and K, a station, where one can't board. One trip goes from M to N on the weekdays of 2025,
 /// on Monday, 2 June, by a date too, and not on Friday, 6 June. One changes from N to O, but not within Q.
@@ -82,6 +83,19 @@ pub(crate) fn sample_feed(alloc: Global) -> Result<Feed, Fail>
     read_feed(alloc, &FEED)
 }
 
+/// The feed of the one trip with these records, booked by 17:00:00 of the day before.
+pub(crate) fn zone_feed(
+    alloc: Global,
+    stop_times: (&'static str, &'static [u8]),
+) -> Result<Feed, Fail>
+    ensures { IfOk result IsSoundFeed }
+{
+    let files = [
+        AGENCY, STOPS, ROUTES, ONE_TRIP, CALENDAR, DAY_AHEAD, ZONE, stop_times,
+    ];
+    read_feed(alloc, &files)
+}
+
 /// Loads the folder t of these files beside the feed. The fetch with the failing number fails.
 pub(crate) fn loaded_times(
     alloc: Global,
@@ -115,9 +129,6 @@ pub(crate) fn sample_times(alloc: Global, feed: &Feed) -> Result<Times, Fail>
 {
     read_times(alloc, feed, &TIMES)
 }
-
-// The columns of a query file.
-const QUERIES: &str = "origin,destination,query_id,depart,now,transfers,horizon,walking\n";
 
 // The query file of these records.
 fn query_bytes(alloc: Global, records: &str) -> Result<RawFile, Fail>

@@ -1,11 +1,6 @@
 // Departures, rides from a stop and offers from a place.
 
-use crate::judged::{
-    AGENCY, CALENDAR, DAY_AHEAD, DAY_BEFORE, EIGHT, GROUPS, M, MEMBERS, N, O, ONE_TRIP, P, ROUTES,
-    STOPS, UTC, june_days,
-};
-use crate::samples::{read_feed, read_times};
-use crate::zoned::{BY_TEN, INSIDE, OUTSIDE, ZONE};
+use crate::loaded::{read_feed, read_times};
 use flex_model::{Deadline, Moment, Place};
 use ride_index::{
     ActiveDays, Boarded, Carried, OfferedRun, RideIndex, Wanted, add_timed_rides, offers_from,
@@ -13,17 +8,15 @@ use ride_index::{
 use std::alloc::Global;
 use std::process::Abort;
 use std::test::Fail;
+use trial_feeds::{
+    AGENCY, BY_TEN, CALENDAR, DAY_AHEAD, DAY_BEFORE, EIGHT, GROUPS, HEADWAYS, INSIDE, M, MEMBERS,
+    N, O, ONE_TRIP, OUTSIDE, P, ROUTES, STOPS, UTC, ZONE, june_days,
+};
 
 // F1 goes from M at 08:00:00 to N at 08:20:00.
 const AT_TIMES: (&str, &[u8]) = (
     "a/stop_times.txt",
     b"trip_id,stop_sequence,stop_id,arrival_time,departure_time\nF1,1,M,08:00:00,08:00:00\nF1,2,N,08:20:00,08:20:00\n",
-);
-
-// It starts every ten minutes, first at 08:05:00 and last at 08:25:00.
-const HEADWAYS: (&str, &[u8]) = (
-    "a/frequencies.txt",
-    b"trip_id,start_time,end_time,headway_secs\nF1,08:05:00,08:30:00,600\n",
 );
 
 const ONCE: [(&str, &[u8]); 6] = [AGENCY, STOPS, ROUTES, ONE_TRIP, CALENDAR, AT_TIMES];

@@ -5,12 +5,7 @@ ghost use Rattle.flex_model.specs.SoundFeed.{IsSoundFeed};
 ghost use Rattle.flex_model.specs.SoundQuery.{IsSoundQuery};
 ghost use Rattle.flex_model.specs.SoundTimes.{AreSoundTimes};
 
-use crate::judged::{
-    AGENCY, CALENDAR, DAY_AHEAD, DAY_BEFORE, EIGHT, M, N, O, ONE_TRIP, P, Q, RIDE, ROUTES, STOPS,
-    UTC, arrival,
-};
-use crate::samples::{files_of, queries_of};
-use crate::zoned::{BY_TEN, BY_TEN_PAST_EIGHT, INSIDE, TEN_MINUTES, ZONE};
+use crate::loaded::{files_of, queries_of};
 use bumpalo::Bump;
 use feed_load::{Loaded, load};
 use flex_io::MemFiles;
@@ -22,6 +17,10 @@ use service_days::{ZoneValue, day_table};
 use std::alloc::Global;
 use std::process::Abort;
 use std::test::Fail;
+use trial_feeds::{
+    AGENCY, BY_TEN, BY_TEN_PAST_EIGHT, CALENDAR, DAY_AHEAD, DAY_BEFORE, EIGHT, INSIDE, M, N,
+    ONE_TRIP, P, RIDE, ROUTES, STOPS, TEN_MINUTES, TO_M, UTC, X1, X2, ZONE, arrival, changing,
+};
 
 // A feed whose trip F1 takes one in Z from the point P to M.
 const FILES: [(&str, &[u8]); 11] = [
@@ -105,13 +104,6 @@ fn assert_search(
     }
     assert_answer(rt, alloc, &mut files, record, best)
 }
-
-// From P at 08:00:00 to M at 08:10:00.
-const TO_M: Ride = Ride {
-    board: P,
-    alight: M,
-    ..RIDE
-};
 
 // The ride that is so many seconds later.
 fn later(ride: Ride, seconds: i64) -> Ride {
@@ -391,31 +383,6 @@ const WHOLE_WAY: Ride = Ride {
     ..RIDE
 };
 
-const FIRST: Ride = Ride {
-    trip: 1,
-    arrives: EIGHT + 1_200,
-    ..RIDE
-};
-
-const SECOND: Ride = Ride {
-    trip: 2,
-    board: O,
-    alight: Q,
-    departs: EIGHT + 1_500,
-    arrives: EIGHT + 2_400,
-    ..RIDE
-};
-
-// By the two trips at 09:00:00, of which so many seconds on foot.
-const fn changed(walk: u32) -> Triple {
-    Triple {
-        deadline: Deadline::Never,
-        arrival: EIGHT + 3_600,
-        transfers: 1,
-        walk,
-    }
-}
-
 // By X1 and on foot at 08:30:00.
 const fn walked(walk: u32) -> Triple {
     Triple {
@@ -432,7 +399,7 @@ fn journeys_with_a_change_are_found(rt: HostRuntime) -> Result<(), Fail> {
     let hour = "M,D,q1,2025-06-04T08:00:00Z,2025-06-03T12:00:00Z,1,60\n";
     let both: [Best<'_>; 2] = [
         (at(DAY_BEFORE, EIGHT + 3_600), &[WHOLE_WAY]),
-        (changed(0), &[FIRST, SECOND]),
+        (changing(0), &[X1, X2]),
     ];
     assert_search(&rt, alloc, &CHANGING, hour, &both)?;
     let shorter = "M,D,q1,2025-06-04T08:00:00Z,2025-06-03T12:00:00Z,1,59\n";
@@ -449,14 +416,14 @@ fn less_walking_is_found_where_it_is_asked_for(rt: HostRuntime) -> Result<(), Fa
     let alloc = rt.alloc();
     let asking = "M,D,q1,2025-06-04T08:00:00Z,2025-06-03T12:00:00Z,1,60,1\n";
     let whole = (at(DAY_BEFORE, EIGHT + 3_600), [WHOLE_WAY].as_slice());
-    let both: [Best<'_>; 2] = [whole, (changed(1_500), &[FIRST, SECOND])];
+    let both: [Best<'_>; 2] = [whole, (changing(1_500), &[X1, X2])];
     assert_search(&rt, alloc, &CHANGING, asking, &both)?;
     let [trips, stop_times, transfers, points, direct, _] = CHANGING;
     let walking = [trips, stop_times, transfers, points, direct, WALKS];
-    let sooner: [Best<'_>; 2] = [(walked(600), &[FIRST]), whole];
+    let sooner: [Best<'_>; 2] = [(walked(600), &[X1]), whole];
     assert_search(&rt, alloc, &walking, asking, &sooner)?;
     let not_asking = "M,D,q1,2025-06-04T08:00:00Z,2025-06-03T12:00:00Z,1,60\n";
-    let soonest: [Best<'_>; 1] = [(walked(0), &[FIRST])];
+    let soonest: [Best<'_>; 1] = [(walked(0), &[X1])];
     assert_search(&rt, alloc, &walking, not_asking, &soonest)
 }
 
