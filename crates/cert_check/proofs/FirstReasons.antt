@@ -4,7 +4,8 @@ use Rattle.std.proofs.lemmas.Bool.{cases_lt}
 use Rattle.cert_check.specs.declared.reason.Reason.{Reason}
 use Rattle.cert_check.specs.declared.reason.Reason.TheVariants.{Query, Rounds, Journey, TripleDiffers, NotOrdered, Beaten, LabelPlace, FinalUncovered, Uncovered}
 use Rattle.cert_check.specs.declared.task.Task.{Task}
-use Rattle.cert_check.specs.Reasons.{IsFirstReason, IsValidPart, kind}
+use Rattle.bound_cert.specs.Parts.{IsValidPart}
+use Rattle.cert_check.specs.Reasons.{IsFirstReason, kind}
 use Rattle.cert_check.specs.Tasks.{IsFound, IsFoundBelow}
 use Rattle.cert_check.proofs.ValidParts.{reasons_fail, valid_parts_pass}
 

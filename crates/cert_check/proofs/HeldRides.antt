@@ -25,7 +25,8 @@ use Rattle.flex_model.proofs.Orders.{CoversPair_trans, IsNoLater-lesser, IsNoLat
 use Rattle.ride_index.specs.declared.active_days.ActiveDays.{ActiveDays}
 use Rattle.ride_index.specs.declared.offered_run.OfferedRun.{OfferedRun}
 use Rattle.ride_index.specs.OfferedRuns.{AreOfferedFrom, IsWantedRide, nth_deadline, nth_ride}
-use Rattle.cert_check.specs.Labels.{IsHeldAmong, label_of, labels_of, table_of}
+use Rattle.bound_cert.specs.Parts.{told_label, told_rounds}
+use Rattle.cert_check.specs.Labels.{IsHeldAmong, labels_of}
 use Rattle.cert_check.specs.Modest.{IsModest}
 use Rattle.cert_check.specs.Tasks.{CanBeTaken, IsHeldIn, IsNthHeld, IsRideHeld, IsSoundTask, IsUnheldFrom, IsUnheldOfAny, pair_after, wanted_from}
 use Rattle.cert_check.proofs.LabelTables.{in_table, listed}
@@ -52,17 +53,17 @@ held_weaker printed rounds place pair other k covers (inr held) = inr (record {
 -- what labels hold is what the table holds, if they are the part's
 module _ (part : CertPart) (labels : List RoundLabel) (same : (label : RoundLabel) → Contains labels label ↔ Contains (labels_of part) label)
     (place : Place) (pair : Pair) (k : ℕ) where
-  pub held_in_table : IsHeldAmong labels place pair k → IsHeldByLabel (table_of part) place pair k
+  pub held_in_table : IsHeldAmong labels place pair k → IsHeldByLabel (told_rounds part) place pair k
   held_in_table held = record {
     round = held.label.round;
-    label = label_of held.label.label;
+    label = told_label held.label.label;
     in_round = in_table part held.label ((same held.label).0 held.among);
     early = held.early;
     at_place = held.at_place;
     covers = held.covers;
   }
 
-  pub held_among : IsHeldByLabel (table_of part) place pair k → IsHeldAmong labels place pair k
+  pub held_among : IsHeldByLabel (told_rounds part) place pair k → IsHeldAmong labels place pair k
   held_among held =
       let its = listed part held.round held.label held.in_round in
       record {

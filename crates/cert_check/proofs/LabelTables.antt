@@ -12,7 +12,8 @@ use Rattle.flex_model.specs.declared.moment.Deadline.TheVariants.{At}
 use Rattle.flex_model.specs.declared.place.Place.TheVariants.{Stop}
 use Rattle.flex_model.specs.LabelTable.{IsInRound, Label}
 use Rattle.flex_model.proofs.Found.{Contains-at, found_in_map, index_of, none_contained}
-use Rattle.cert_check.specs.Labels.{in_round, label_of, labels_from, labels_of, table_of}
+use Rattle.bound_cert.specs.Parts.{told_label, told_rounds}
+use Rattle.cert_check.specs.Labels.{in_round, labels_from, labels_of}
 use Rattle.cert_check.specs.Numbers.{IsNumber}
 
 -- ---- images of lists
@@ -75,17 +76,17 @@ in_labels k (first ∷ rounds) (suc i) round label e c =
 -- ---- the table of a part
 
 abbrev labels_in : CertRound → List Label
-labels_in round = map label_of round.labels
+labels_in round = map told_label round.labels
 
 -- a label of the list is one of the table, in its round
-pub in_table : (part : CertPart) (label : RoundLabel) → Contains (labels_of part) label → IsInRound (table_of part) label.round (label_of label.label)
+pub in_table : (part : CertPart) (label : RoundLabel) → Contains (labels_of part) label → IsInRound (told_rounds part) label.round (told_label label.label)
 in_table part label c =
     let of = of_round 1 part.rounds label c in
     let e : suc of.index ≡ label.round = (let n = of.number in omega arith) in
-    subst (λ n. IsInRound (table_of part) n (label_of label.label)) e (
+    subst (λ n. IsInRound (told_rounds part) n (told_label label.label)) e (
       labels_in of.round,
       slice_get-map labels_in part.rounds of.index ∙ ap (option_map labels_in) of.at_index,
-      in_image label_of of.round.labels label.label of.among,
+      in_image told_label of.round.labels label.label of.among,
     )
 
 -- a label of the table is one of the list
@@ -94,13 +95,13 @@ pub record IsListed (part : CertPart) (k : ℕ) (label : Label) : Type 0 where
   pub number : ℕ
   pub at_number : IsNumber (labels_of part) (suc number) its
   pub round : its.round ≡ k
-  pub same : label_of its.label ≡ label
+  pub same : told_label its.label ≡ label
 
-pub listed : (part : CertPart) (k : ℕ) (label : Label) → IsInRound (table_of part) k label → IsListed part k label
+pub listed : (part : CertPart) (k : ℕ) (label : Label) → IsInRound (told_rounds part) k label → IsListed part k label
 listed part zero label is = absurd is
 listed part (suc k) label is =
     let round = found_in_map labels_in part.rounds k is.0 is.1 in
-    let found = from_image label_of round.0.labels label (subst (λ labels. Contains labels label) (sym round.2) is.2) in
+    let found = from_image told_label round.0.labels label (subst (λ labels. Contains labels label) (sym round.2) is.2) in
     let c = in_labels 1 part.rounds k round.0 found.0 round.1 found.1 in
     let at = index_of (labels_of part) (in_round (1 + k) found.0) c in
     record { its = in_round (1 + k) found.0; number = at.0; at_number = at.1; round = omega arith; same = found.2 }

@@ -20,10 +20,11 @@ use Rattle.flex_model.specs.Triple.{Covers, IsTripleBefore}
 use Rattle.flex_model.proofs.Flaws.{journeys_flawed}
 use Rattle.flex_model.proofs.Found.{All-at, All-from_contains, AllPairs-at, Contains-at, found_in_map, index_of}
 use Rattle.flex_model.proofs.Orders.{IsTripleBefore_trans}
-use Rattle.cert_check.specs.Labels.{label_of, labels_of, table_of}
+use Rattle.bound_cert.specs.Parts.{IsValidPart, told_label, told_rounds}
+use Rattle.cert_check.specs.Labels.{labels_of}
 use Rattle.cert_check.specs.Laws.{ReasonsAreFailedTests, ValidPartsPass}
 use Rattle.cert_check.specs.Numbers.{IsNumber}
-use Rattle.cert_check.specs.Reasons.{Applies, IsValidPart, Passes}
+use Rattle.cert_check.specs.Reasons.{Applies, Passes}
 use Rattle.cert_check.proofs.LabelTables.{in_table, listed}
 
 -- ---- lists in which each item comes before the next one
@@ -72,10 +73,10 @@ module _ (feed : Feed) (times : Times) (days : DayTable) (query : query.Query) (
         (subst (λ t. Covers x.0.triple t) (sym y.2) (subst (λ t. Covers t b) (sym x.2) covers)) in
         omega arith
 
-    places : All (λ labels. All (λ label. IsLabelPlace feed query label.place) labels) (table_of part)
-    places = All-from_contains (λ labels. All (λ label. IsLabelPlace feed query label.place) labels) (table_of part) (λ labels c.
+    places : All (λ labels. All (λ label. IsLabelPlace feed query label.place) labels) (told_rounds part)
+    places = All-from_contains (λ labels. All (λ label. IsLabelPlace feed query label.place) labels) (told_rounds part) (λ labels c.
         All-from_contains (λ label. IsLabelPlace feed query label.place) labels (λ label d.
-        let at = index_of (table_of part) labels c in
+        let at = index_of (told_rounds part) labels c in
         let its = listed part (suc at.0) label (labels, at.1, d) in
         subst (λ (l : Label). IsLabelPlace feed query l.place) its.same (passes (LabelPlace (suc its.number)) its.its its.at_number)))
 
@@ -84,7 +85,7 @@ module _ (feed : Feed) (times : Times) (days : DayTable) (query : query.Query) (
       id = (passes Query).0;
       walking = (passes Query).1;
       certificate = record {
-        round_count = length-map part.rounds (λ round. map label_of round.labels) ∙ passes Rounds;
+        round_count = length-map part.rounds (λ round. map told_label round.labels) ∙ passes Rounds;
         attained = attained;
         rising = rising;
         apart = apart;
@@ -94,9 +95,9 @@ module _ (feed : Feed) (times : Times) (days : DayTable) (query : query.Query) (
           next = λ k label ride deadline walk is few way leads.
               let its = listed part k label is in
               let few' : its.its.round ≤ query.transfers = (let e = its.round in omega arith) in
-              let leads' : LeadsTo feed query (label_of its.its.label) ride walk = subst (λ l. LeadsTo feed query l ride walk) (sym its.same) leads in
-              subst (λ l. IsHeld (triples part.answers) (table_of part) ride.alight (next_pair l ride deadline walk) (k + 1)) its.same
-              (subst (λ n. IsHeld (triples part.answers) (table_of part) ride.alight (next_pair (label_of its.its.label) ride deadline walk) (n + 1)) its.round
+              let leads' : LeadsTo feed query (told_label its.its.label) ride walk = subst (λ l. LeadsTo feed query l ride walk) (sym its.same) leads in
+              subst (λ l. IsHeld (triples part.answers) (told_rounds part) ride.alight (next_pair l ride deadline walk) (k + 1)) its.same
+              (subst (λ n. IsHeld (triples part.answers) (told_rounds part) ride.alight (next_pair (told_label its.its.label) ride deadline walk) (n + 1)) its.round
               (passes (Uncovered (suc its.number) ride) its.its its.at_number deadline walk few' way leads'));
           last = λ k label seconds is egress le.
               let its = listed part k label is in
@@ -132,31 +133,31 @@ module _ (feed : Feed) (times : Times) (days : DayTable) (query : query.Query) (
     unbeaten (suc n) (suc m) answer other is its covers =
         ap suc (part_valid.certificate.apart m n other.triple answer.triple (triple_at m other its) (triple_at n answer is) covers)
 
-    its_round : (n : ℕ) (label : RoundLabel) → IsNumber (labels_of part) n label → IsInRound (table_of part) label.round (label_of label.label)
+    its_round : (n : ℕ) (label : RoundLabel) → IsNumber (labels_of part) n label → IsInRound (told_rounds part) label.round (told_label label.label)
     its_round zero label is = absurd is
     its_round (suc n) label is = in_table part label (Contains-at (labels_of part) n label is)
 
-    its_place : (n : ℕ) (label : RoundLabel) → IsNumber (labels_of part) n label → (k : ℕ) → label.round ≡ k → IsInRound (table_of part) k (label_of label.label)
+    its_place : (n : ℕ) (label : RoundLabel) → IsNumber (labels_of part) n label → (k : ℕ) → label.round ≡ k → IsInRound (told_rounds part) k (told_label label.label)
         → IsLabelPlace feed query label.label.place
     its_place n label is zero e in_k = absurd in_k
     its_place n label is (suc k) e in_k =
-        let labels = All-at (λ ls. All (λ l. IsLabelPlace feed query l.place) ls) (table_of part) k in_k.0 part_valid.certificate.places in_k.1 in
-        let at = index_of in_k.0 (label_of label.label) in_k.2 in
-        All-at (λ (l : Label). IsLabelPlace feed query l.place) in_k.0 at.0 (label_of label.label) labels at.1
+        let labels = All-at (λ ls. All (λ l. IsLabelPlace feed query l.place) ls) (told_rounds part) k in_k.0 part_valid.certificate.places in_k.1 in
+        let at = index_of in_k.0 (told_label label.label) in_k.2 in
+        All-at (λ (l : Label). IsLabelPlace feed query l.place) in_k.0 at.0 (told_label label.label) labels at.1
 
     passed : (reason : Reason) → Passed reason
     passed Query = (part_valid.id, part_valid.walking)
-    passed Rounds = sym (length-map part.rounds (λ round. map label_of round.labels)) ∙ part_valid.certificate.round_count
+    passed Rounds = sym (length-map part.rounds (λ round. map told_label round.labels)) ∙ part_valid.certificate.round_count
     passed (Journey n flaw) = λ answer is. (its_answer n answer is).journey
     passed (TripleDiffers n told real) = λ answer is. its_answer n answer is
     passed (NotOrdered n) = λ answer is next after. in_order n answer next is after
     passed (Beaten n m) = λ answer other is its covers. unbeaten n m answer other is its covers
     passed (LabelPlace n) = λ label is. its_place n label is label.round refl (its_round n label is)
     passed (FinalUncovered n) = λ label is seconds egress le.
-        part_valid.certificate.closed.last label.round (label_of label.label) seconds (its_round n label is) egress le
+        part_valid.certificate.closed.last label.round (told_label label.label) seconds (its_round n label is) egress le
     passed (Uncovered zero ride) = λ deadline walk way starts. part_valid.certificate.closed.first ride deadline walk way starts
     passed (Uncovered (suc n) ride) = λ label is deadline walk few way leads.
-        part_valid.certificate.closed.next label.round (label_of label.label) ride deadline walk (its_round (suc n) label is) few way leads
+        part_valid.certificate.closed.next label.round (told_label label.label) ride deadline walk (its_round (suc n) label is) few way leads
 
   -- ---- reasons
 

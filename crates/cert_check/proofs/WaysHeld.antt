@@ -17,7 +17,7 @@ use Rattle.flex_model.specs.Change.{HasAccess, HasChange}
 use Rattle.flex_model.specs.Journey.{change_walk, counted, limit}
 use Rattle.flex_model.specs.LabelTable.{first_pair, next_pair}
 use Rattle.flex_model.proofs.Certificates.{ride_forwards}
-use Rattle.cert_check.specs.Labels.{label_of}
+use Rattle.bound_cert.specs.Parts.{told_label}
 use Rattle.cert_check.specs.Tasks.{IsHeldIn, IsSoundTask, IsUnheldFrom}
 use Rattle.cert_check.specs.Ways.{AreFirstHeld, AreNextHeld, IsFirstHeld, IsNextHeld, IsUnheldAccess, IsUnheldChange, IsUnheldFirst, IsUnheldNext, IsUnheldRule, IsUnheldWalk}
 
@@ -87,7 +87,7 @@ module _ (task : Task) (label : RoundLabel) (place : Place) (found : Option ℕ)
       let foot : counted task.query.now (change_walk label.label.place place seconds) ≡ walk =
       ap (λ n. counted task.query.now (change_walk label.label.place place n)) same
       ∙ ap (λ p. counted task.query.now (change_walk label.label.place p leads.0)) (sym at) ∙ sym leads.3 in
-      subst (λ w. IsHeldIn task ride.alight (next_pair (label_of label.label) ride deadline w) (label.round + 1)) foot
+      subst (λ w. IsHeldIn task ride.alight (next_pair (told_label label.label) ride deadline w) (label.round + 1)) foot
       (all ride deadline (record { on_the_way = way; boards = at; leaves = leaves }))
   some_change few seconds some (Some ride) of =
       let can = of.1 in (

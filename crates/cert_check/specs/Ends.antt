@@ -11,7 +11,7 @@ use Rattle.flex_model.specs.Journey.{counted, limit}
 use Rattle.flex_model.specs.LabelTable.{triple_of}
 use Rattle.flex_model.specs.Triple.{Covers}
 use Rattle.cert_check.specs.declared.made.Made.{Made}
-use Rattle.cert_check.specs.Labels.{label_of}
+use Rattle.bound_cert.specs.Parts.{told_label}
 use Rattle.cert_check.specs.Tasks.{pair_of_made}
 
 -- where the destination is reached from the label in time, an answer covers that
@@ -26,7 +26,7 @@ IsEndUncovered task label =
     (seconds : ℕ) × HasEgress task.times.now task.query.now label.label.place seconds
     × ((label.label.arrival +ℤ pos seconds) ≤ℤ limit task.query.now)
     × ((triple : Triple) → Contains (triples task.part.now.answers) triple
-    → Covers triple (triple_of task.query.now (label_of label.label) seconds label.round) → ⊥)
+    → Covers triple (triple_of task.query.now (told_label label.label) seconds label.round) → ⊥)
 
 -- what is reached at the destination from the label in so many seconds
 abbrev pub end_after : Task → RoundLabel → ℕ → Pair

@@ -1,27 +1,15 @@
 -- The labels of a part, in one list: those of the first round, then those of the second one, and
 -- so on, each with its round. Rounds count from 1. This project's own.
 use Rattle.std.specs.Prelude.{◌≡◌, ℕ, ◌+◌, ◌≤◌, List, [], ◌∷◌, ◌++◌, Contains, map}
+use Rattle.bound_cert.specs.Parts.{told_label}
 use Rattle.bound_cert.specs.declared.cert.CertLabel.{CertLabel}
 use Rattle.bound_cert.specs.declared.cert.CertPart.{CertPart}
 use Rattle.bound_cert.specs.declared.cert.CertRound.{CertRound}
 use Rattle.cert_check.specs.declared.labels.RoundLabel.{RoundLabel}
 use Rattle.flex_model.specs.declared.answer.Pair.{Pair}
 use Rattle.flex_model.specs.declared.place.Place.{Place}
-use Rattle.flex_model.specs.LabelTable.{Label, pair_of}
+use Rattle.flex_model.specs.LabelTable.{pair_of}
 use Rattle.flex_model.specs.Triple.{CoversPair}
-
--- what a label of a certificate says
-abbrev pub label_of : CertLabel → Label
-label_of label = record {
-  place = label.place;
-  deadline = label.deadline;
-  arrival = label.arrival;
-  walk = label.walk;
-}
-
--- the label table of the part
-abbrev pub table_of : CertPart → List (List Label)
-table_of part = map (λ round. map label_of round.labels) part.rounds
 
 -- the label, with its round
 abbrev pub in_round : ℕ → CertLabel → RoundLabel
@@ -43,11 +31,11 @@ pub record IsHeldAmong (labels : List RoundLabel) (place : Place) (pair : Pair) 
     pub among : Contains labels label
     pub early : label.round ≤ k
     pub at_place : label.label.place ≡ place
-    pub covers : CoversPair (pair_of (label_of label.label)) pair
+    pub covers : CoversPair (pair_of (told_label label.label)) pair
 
 -- one of these labels is of a round up to k, and covers the pair
 pub record IsAmong (labels : List RoundLabel) (pair : Pair) (k : ℕ) : Type 0 where
   pub label : RoundLabel
   pub among : Contains labels label
   pub early : label.round ≤ k
-  pub covers : CoversPair (pair_of (label_of label.label)) pair
+  pub covers : CoversPair (pair_of (told_label label.label)) pair

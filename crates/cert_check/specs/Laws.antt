@@ -9,7 +9,8 @@ use Rattle.flex_model.specs.declared.times.Times.{Times}
 use Rattle.flex_model.specs.SoundFeed.{IsSoundFeed}
 use Rattle.flex_model.specs.SoundQuery.{IsDayTableOf, IsSoundDayTable, IsSoundQuery}
 use Rattle.flex_model.specs.SoundTimes.{AreSoundTimes}
-use Rattle.cert_check.specs.Reasons.{Applies, IsValidPart, Passes}
+use Rattle.bound_cert.specs.Parts.{IsValidPart}
+use Rattle.cert_check.specs.Reasons.{Applies, Passes}
 use Rattle.cert_check.specs.RefusalText.{IsPrintableReason}
 
 -- A part is valid just where it passes each test.

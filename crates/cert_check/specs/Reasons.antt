@@ -25,13 +25,13 @@ use Rattle.flex_model.specs.declared.query.Query.{Query as TheQuery}
 use Rattle.flex_model.specs.declared.ride.Ride.{Ride}
 use Rattle.flex_model.specs.declared.times.Times.{Times}
 use Rattle.flex_model.specs.Answer.{triples}
-use Rattle.flex_model.specs.Certificate.{IsValidCertificate}
 use Rattle.flex_model.specs.Change.{HasEgress}
 use Rattle.flex_model.specs.Flaw.{IsFirstJourneyFlaw}
 use Rattle.flex_model.specs.Journey.{Attains, IsLabelPlace, IsPermittedJourney, StartsOnFoot, limit}
 use Rattle.flex_model.specs.LabelTable.{IsHeld, IsOnTheWay, LeadsTo, first_pair, next_pair, triple_of}
 use Rattle.flex_model.specs.Triple.{Covers, IsTripleBefore}
-use Rattle.cert_check.specs.Labels.{label_of, labels_of, table_of}
+use Rattle.bound_cert.specs.Parts.{IsValidPart, told_label, told_rounds}
+use Rattle.cert_check.specs.Labels.{labels_of}
 use Rattle.cert_check.specs.Numbers.{IsNumber}
 
 -- the order in which the kinds of tests are tried
@@ -80,13 +80,6 @@ abbrev pub Precedes : Reason → Reason → Type 0
 Precedes a b = (kind a < kind b) ⊎ ((kind a ≡ kind b) × IsTriedBefore a b)
 
 module _ (feed : Feed) (times : Times) (days : DayTable) (query : TheQuery) (part : CertPart) where
-  -- The part has the query's id, asks for walking just where the query does, and its answers and
-  -- labels are a valid certificate.
-  pub record IsValidPart : Type 0 where
-    pub id : part.query ≡ query.id
-    pub walking : part.walking ≡ query.walking
-    pub certificate : IsValidCertificate feed times days query part.answers (table_of part)
-
   -- the answer comes before the one with this number
   abbrev pub IsBeforeNumber : ℕ → Answer → Type 0
   IsBeforeNumber n answer =
@@ -104,23 +97,23 @@ module _ (feed : Feed) (times : Times) (days : DayTable) (query : TheQuery) (par
       (seconds : ℕ) → HasEgress times query label.label.place seconds
       → (label.label.arrival +ℤ pos seconds) ≤ℤ limit query
       → (triple : Triple) × Contains (triples part.answers) triple
-      × Covers triple (triple_of query (label_of label.label) seconds label.round)
+      × Covers triple (triple_of query (told_label label.label) seconds label.round)
 
   -- if the ride is one from the origin on the way, it is held
   abbrev pub IsFirstHeld : Ride → Type 0
   IsFirstHeld ride =
       (deadline : Deadline) (walk : ℕ) → IsOnTheWay feed times days query ride deadline
       → StartsOnFoot times query ride walk
-      → IsHeld (triples part.answers) (table_of part) ride.alight (first_pair ride deadline walk) 1
+      → IsHeld (triples part.answers) (told_rounds part) ride.alight (first_pair ride deadline walk) 1
 
   -- if the ride is one after the label on the way, it is held
   abbrev pub IsNextHeld : RoundLabel → Ride → Type 0
   IsNextHeld label ride =
       (deadline : Deadline) (walk : ℕ) → label.round ≤ query.transfers
       → IsOnTheWay feed times days query ride deadline
-      → LeadsTo feed query (label_of label.label) ride walk
-      → IsHeld (triples part.answers) (table_of part) ride.alight
-      (next_pair (label_of label.label) ride deadline walk) (label.round + 1)
+      → LeadsTo feed query (told_label label.label) ride walk
+      → IsHeld (triples part.answers) (told_rounds part) ride.alight
+      (next_pair (told_label label.label) ride deadline walk) (label.round + 1)
 
   -- the part passes the test for which the reason is named
   abbrev pub Passes : Reason → Type 0
@@ -151,7 +144,7 @@ module _ (feed : Feed) (times : Times) (days : DayTable) (query : TheQuery) (par
   IsFirstUnheld ride =
       (deadline : Deadline) × (walk : ℕ) × IsOnTheWay feed times days query ride deadline
       × StartsOnFoot times query ride walk
-      × (IsHeld (triples part.answers) (table_of part) ride.alight
+      × (IsHeld (triples part.answers) (told_rounds part) ride.alight
       (first_pair ride deadline walk) 1 → ⊥)
 
   -- the ride is one after the label on the way, and isn't held
@@ -159,9 +152,9 @@ module _ (feed : Feed) (times : Times) (days : DayTable) (query : TheQuery) (par
   IsNextUnheld label ride =
       (deadline : Deadline) × (walk : ℕ) × (label.round ≤ query.transfers)
       × IsOnTheWay feed times days query ride deadline
-      × LeadsTo feed query (label_of label.label) ride walk
-      × (IsHeld (triples part.answers) (table_of part) ride.alight
-      (next_pair (label_of label.label) ride deadline walk) (label.round + 1) → ⊥)
+      × LeadsTo feed query (told_label label.label) ride walk
+      × (IsHeld (triples part.answers) (told_rounds part) ride.alight
+      (next_pair (told_label label.label) ride deadline walk) (label.round + 1) → ⊥)
 
   -- the reason is true of the part
   abbrev pub Applies : Reason → Type 0
@@ -188,7 +181,7 @@ module _ (feed : Feed) (times : Times) (days : DayTable) (query : TheQuery) (par
       × HasEgress times query label.label.place seconds
       × ((label.label.arrival +ℤ pos seconds) ≤ℤ limit query)
       × ((triple : Triple) → Contains (triples part.answers) triple
-      → Covers triple (triple_of query (label_of label.label) seconds label.round) → ⊥)
+      → Covers triple (triple_of query (told_label label.label) seconds label.round) → ⊥)
   Applies (Uncovered zero ride) = IsFirstUnheld ride
   Applies (Uncovered (suc n) ride) =
       (label : RoundLabel) × IsNumber (labels_of part) (suc n) label × IsNextUnheld label ride
@@ -200,8 +193,8 @@ module _ (feed : Feed) (times : Times) (days : DayTable) (query : TheQuery) (par
 
   -- the part is valid, or it is not, and the reason is the first one
   abbrev pub IsVerdict : Verdict → Type 0
-  IsVerdict Yes = IsValidPart
-  IsVerdict (No reason) = IsFirstReason reason × (IsValidPart → ⊥)
+  IsVerdict Yes = IsValidPart feed times days query part
+  IsVerdict (No reason) = IsFirstReason reason × (IsValidPart feed times days query part → ⊥)
 
   -- the first test of the kind that fails, if there is one
   abbrev pub IsFirstOfKind : ℕ → Option Reason → Type 0

@@ -26,7 +26,8 @@ use Rattle.ride_index.specs.declared.wanted.Wanted.{Wanted}
 use Rattle.ride_index.specs.ActiveDays.{AreActiveDays}
 use Rattle.ride_index.specs.Index.{IsIndexOf}
 use Rattle.ride_index.specs.OfferedRuns.{nth_deadline, nth_ride}
-use Rattle.cert_check.specs.Labels.{labels_of, table_of}
+use Rattle.bound_cert.specs.Parts.{told_rounds}
+use Rattle.cert_check.specs.Labels.{labels_of}
 use Rattle.cert_check.specs.Reasons.{IsFirstOfKind, IsFirstReason, Passes, kind}
 
 -- all that is checked is sound; of the part nothing is asked
@@ -62,7 +63,7 @@ pair_of_made made =
 -- the pair is held at the place in round k, by a label or an answer of the part
 abbrev pub IsHeldIn : Task → Place → Pair → ℕ → Type 0
 IsHeldIn task place pair k =
-    IsHeld (triples task.part.now.answers) (table_of task.part.now) place pair k
+    IsHeld (triples task.part.now.answers) (told_rounds task.part.now) place pair k
 
 -- the pair that a ride with the deadline makes of what is boarded
 abbrev pub pair_after : Boarded → Ride → Deadline → Pair

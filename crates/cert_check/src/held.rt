@@ -4,7 +4,8 @@ ghost use Rattle.std.specs.Prelude.{◌↔◌, ◌≡◌, IsTrue};
 ghost use Rattle.flex_model.specs.Answer.{triples};
 ghost use Rattle.flex_model.specs.LabelTable.{IsHeldByTriple, pair_of};
 ghost use Rattle.flex_model.specs.Triple.{CoversPair, pair_of_triple};
-ghost use Rattle.cert_check.specs.Labels.{IsAmong, IsHeldAmong, label_of};
+ghost use Rattle.bound_cert.specs.Parts.{told_label};
+ghost use Rattle.cert_check.specs.Labels.{IsAmong, IsHeldAmong};
 ghost use Rattle.cert_check.specs.Tasks.{AreByPlace, AreLookupsOf, IsHeldIn, pair_of_made};
 
 use crate::labels::{RoundLabel, labels_at};
@@ -15,7 +16,7 @@ use flex_model::{Answer, Place, Triple};
 
 // Whether the label covers the pair.
 fn label_covers(label: &CertLabel, made: &Made) -> bool
-    ensures { IsTrue result ↔ CoversPair (pair_of (label_of label.now)) (pair_of_made made.now) }
+    ensures { IsTrue result ↔ CoversPair (pair_of (told_label label.now)) (pair_of_made made.now) }
 {
     label.deadline >= made.deadline
         && label.arrival <= made.arrival

@@ -1,6 +1,11 @@
+mod Accepted
 mod Gains
+mod OneZone
 mod Opening
+mod PartTexts
 mod Pieces
+mod Printed
 mod Reply
 mod Texts
-mod SearchAnswers
+mod Verdicts
+mod ZoneTables

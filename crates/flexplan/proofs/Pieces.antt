@@ -14,7 +14,7 @@ use Rattle.feed_tables.specs.Records.{numbered_from, table_records}
 use Rattle.feed_meaning.specs.Folder.{bytes_of}
 use Rattle.flexplan.specs.Answers.{Piece, RightText, answer}
 use Rattle.flexplan.specs.Input.{feed, query_file, times}
-use Rattle.flexplan.specs.Pieces.{AnswersComeInPieces, ArePieces}
+use Rattle.flexplan.specs.Pieces.{AnswersComeInPieces}
 use Rattle.flexplan.specs.Reply.{answers_of}
 use Rattle.flexplan.specs.Texts.{Texts}
 use Rattle.flexplan.specs.Words.{InputPaths}

@@ -68,22 +68,22 @@ module _ {Q : Type 0} (IsTextOf : Q → List ℕ → Type 0) where
       (first.0 ++ rest.0, (first.0, rest.0, first.1, rest.1, refl))
 
   -- So what was cut short is the beginning of a whole.
-  pub completed : ((item : Q) → (text : List ℕ) × IsTextOf item text) → (items : List Q) (bytes : List ℕ) → PartTexts IsTextOf items bytes
+  pub completed : (items : List Q) (bytes : List ℕ) → (text : List ℕ) × Texts IsTextOf items text → PartTexts IsTextOf items bytes
       → (text : List ℕ) × Texts IsTextOf items text × IsBeginning text bytes
-  completed some [] bytes part = absurd part
-  completed some (item ∷ items) bytes (inl part) =
-      let rest = all_texts some items in (
-        part.0 ++ rest.0,
-        (part.0, rest.0, part.1, rest.1, refl),
-        (part.2.0 ++ rest.0, ap (λ (l : List ℕ). l ++ rest.0) part.2.1 ∙ append_assoc bytes part.2.0 rest.0),
+  completed [] bytes whole part = absurd part
+  completed (item ∷ items) bytes whole (inl part) =
+      let rest = whole.1.1 in (
+        part.0 ++ rest,
+        (part.0, rest, part.1, whole.1.3, refl),
+        (part.2.0 ++ rest, ap (λ (l : List ℕ). l ++ rest) part.2.1 ∙ append_assoc bytes part.2.0 rest),
       )
-  completed some (item ∷ items) bytes (inr more) =
-      let whole = completed some items more.1 more.3 in (
-        more.0 ++ whole.0,
-        (more.0, whole.0, more.2, whole.1, refl),
+  completed (item ∷ items) bytes whole (inr more) =
+      let later = completed items more.1 (whole.1.1, whole.1.3) more.3 in (
+        more.0 ++ later.0,
+        (more.0, later.0, more.2, later.1, refl),
         (
-          whole.2.0,
-          ap (λ (l : List ℕ). more.0 ++ l) whole.2.1 ∙ sym (append_assoc more.0 more.1 whole.2.0) ∙ ap (λ (l : List ℕ). l ++ whole.2.0) (sym more.4),
+          later.2.0,
+          ap (λ (l : List ℕ). more.0 ++ l) later.2.1 ∙ sym (append_assoc more.0 more.1 later.2.0) ∙ ap (λ (l : List ℕ). l ++ later.2.0) (sym more.4),
         ),
       )
 
@@ -133,7 +133,7 @@ module _ {Q : Type 0} (IsTextOf : Q → List ℕ → Type 0) where
 
 module _ {P Q : Type 0} (f : P → Q) (IsTextOf : Q → List ℕ → Type 0) where
   -- the same texts, of items that were made of others
-  texts-map : (items : List P) (bytes : List ℕ) → Texts (λ item. IsTextOf (f item)) items bytes → Texts IsTextOf (map f items) bytes
+  pub texts-map : (items : List P) (bytes : List ℕ) → Texts (λ item. IsTextOf (f item)) items bytes → Texts IsTextOf (map f items) bytes
   texts-map [] bytes none = none
   texts-map (item ∷ items) bytes texts = (texts.0, texts.1, texts.2, texts-map items texts.1 texts.3, texts.4)
 
@@ -155,3 +155,20 @@ module _ {P Q : Type 0} (f : P → Q) (IsTextOf : Q → List ℕ → Type 0) whe
   prints-map items (Ok _) bytes prints = texts-map items bytes prints
   prints-map items (Err Failed) bytes prints = parts-map items bytes prints
   prints-map items (Err NoMemory) bytes prints = first-map items bytes prints
+
+module _ {Q : Type 0} (P R : Q → List ℕ → Type 0) (weaker : (item : Q) (text : List ℕ) → P item text → R item text) where
+  -- the same texts, of which less is said
+  texts_weaker : (items : List Q) (bytes : List ℕ) → Texts P items bytes → Texts R items bytes
+  texts_weaker [] bytes none = none
+  texts_weaker (item ∷ items) bytes texts = (texts.0, texts.1, weaker item texts.0 texts.2, texts_weaker items texts.1 texts.3, texts.4)
+
+  parts_weaker : (items : List Q) (bytes : List ℕ) → PartTexts P items bytes → PartTexts R items bytes
+  parts_weaker [] bytes none = none
+  parts_weaker (item ∷ items) bytes (inl part) = inl (part.0, weaker item part.0 part.1, part.2)
+  parts_weaker (item ∷ items) bytes (inr later) =
+      inr (later.0, later.1, weaker item later.0 later.2, parts_weaker items later.1 later.3, later.4)
+
+  pub prints_weaker : (items : List Q) (r : Result (Unit {0}) PutError) (bytes : List ℕ) → PrintsAll P items r bytes → PrintsAll R items r bytes
+  prints_weaker items (Ok _) bytes prints = texts_weaker items bytes prints
+  prints_weaker items (Err Failed) bytes prints = parts_weaker items bytes prints
+  prints_weaker items (Err NoMemory) bytes prints = (prints.0, texts_weaker (take prints.0 items) bytes prints.1)

@@ -1,9 +1,13 @@
+pub mod Accepted
 pub mod Answers
+pub mod Certified
+pub mod Checked
 pub mod ErrorLine
 pub mod ExitNumber
 pub mod Failures
 pub mod Faults
 pub mod Input
+pub mod Judging
 pub mod Opened
 pub mod Pieces
 pub mod Reply

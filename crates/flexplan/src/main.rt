@@ -1,13 +1,13 @@
 //! A planner that reads files, answers queries and prints to a sink. Over told files its output is proved right.
 #![tactic(auto)]
 
-mod answers;
 mod faults;
 mod input;
 mod laws;
+mod printout;
 mod run;
-mod search;
 mod status;
+mod verdict;
 mod words;
 
 use flex_io::{HostFiles, HostSink};
@@ -42,6 +42,8 @@ fn run_words(rt: HostRuntime, args: env::Args) -> Result<Status, AllocError> {
     Ok(run(alloc, &words, &mut files, &mut out, &mut err))
 }
 
+#[cfg(test)]
+mod cert_tests;
 #[cfg(test)]
 mod lint_tests;
 #[cfg(test)]

@@ -47,7 +47,7 @@ const FILES: [(&str, &str); 12] = [
 ];
 
 // Other contents of a file, or one file more.
-type Other<'a> = (&'a str, &'a str);
+pub(crate) type Other<'a> = (&'a str, &'a str);
 
 const BOOKED_THE_DAY_BEFORE: &str = "query q1 1\n\
     journey 2025-06-03T17:00:00Z 2025-06-04T08:10:00Z 0\n\
@@ -83,17 +83,17 @@ const BOOKED_HALF_AN_HOUR_BEFORE: &str = "query q1 4\n\
 const NONE: &str = "query q1 0\n";
 
 // A query of these fields.
-fn query(alloc: Global, fields: &str) -> Result<String, Fail> {
+pub(crate) fn query(alloc: Global, fields: &str) -> Result<String, Fail> {
     Ok(format!(in alloc;
         "query_id,origin,destination,depart,now,transfers,horizon\nq1,{fields}\n"
     )?)
 }
 
 #[derive(Drop)]
-struct Ended {
-    status: Status,
-    out: MemSink,
-    err: MemSink,
+pub(crate) struct Ended {
+    pub(crate) status: Status,
+    pub(crate) out: MemSink,
+    pub(crate) err: MemSink,
 }
 
 const PLAN: [&str; 4] = ["plan", "a", "t", "q"];
@@ -101,7 +101,11 @@ const PLAN: [&str; 4] = ["plan", "a", "t", "q"];
 const LINT: [&str; 2] = ["lint", "a"];
 
 // These files with others in place of some or beside them, and without one.
-fn files_of(alloc: Global, others: &[Other<'_>], without: &str) -> Result<MemFiles, Fail> {
+pub(crate) fn files_of(
+    alloc: Global,
+    others: &[Other<'_>],
+    without: &str,
+) -> Result<MemFiles, Fail> {
     let mut files = MemFiles::new(alloc);
     for (path, contents) in FILES.as_slice() {
         if *path != without {
@@ -115,7 +119,7 @@ fn files_of(alloc: Global, others: &[Other<'_>], without: &str) -> Result<MemFil
 }
 
 // Runs the words over the files, with an output of which a put may fail.
-fn ran(alloc: Global, words: &[&str], files: &mut MemFiles, mut out: MemSink) -> Ended {
+pub(crate) fn ran(alloc: Global, words: &[&str], files: &mut MemFiles, mut out: MemSink) -> Ended {
     let mut err = MemSink::new(alloc);
     let status = run(alloc, words, files, &mut out, &mut err);
     Ended { status, out, err }
@@ -365,14 +369,14 @@ const CHANGES: [Other<'static>; 7] = [
 
 const HOUR: &str = "M,D,2025-06-04T08:00:00Z,2025-06-03T12:00:00Z,1,60";
 
-const BOTH: &str = "query q1 2\njourney 2025-06-03T17:00:00Z 2025-06-04T09:00:00Z 0\n\
+pub(crate) const BOTH: &str = "query q1 2\njourney 2025-06-03T17:00:00Z 2025-06-04T09:00:00Z 0\n\
     ride F1 20250604 1 2 M D 2025-06-04T08:00:00Z 2025-06-04T09:00:00Z\n\
     journey never 2025-06-04T09:00:00Z 1\n\
     ride X1 20250604 1 2 M N 2025-06-04T08:00:00Z 2025-06-04T08:20:00Z\n\
     ride X2 20250604 1 2 O Q 2025-06-04T08:25:00Z 2025-06-04T08:40:00Z\n";
 
 // The files of the change.
-fn changed_files(alloc: Global) -> Result<MemFiles, Fail> {
+pub(crate) fn changed_files(alloc: Global) -> Result<MemFiles, Fail> {
     let mut files = files_of(alloc, &CHANGES, "")?;
     let asked = query(alloc, HOUR)?;
     files.add("q", asked.as_str().as_bytes())?;
@@ -405,7 +409,8 @@ fn one_changes_between_buses_in_time(rt: HostRuntime) -> Result<(), Fail> {
 }
 
 // A query file that asks for walking.
-const WALKING: &str = "query_id,origin,destination,depart,now,transfers,horizon,walking\n\
+pub(crate) const WALKING: &str =
+    "query_id,origin,destination,depart,now,transfers,horizon,walking\n\
     q1,M,D,2025-06-04T08:00:00Z,2025-06-03T12:00:00Z,1,60,1\n";
 
 #[test]

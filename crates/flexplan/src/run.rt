@@ -2,15 +2,20 @@
 
 ghost use Rattle.std.specs.Prelude.{◌≡◌, ◌≢◌, ◌↔◌, ◌⊎◌, Err, Option, None, Some, IfSome, IsSome, IsErrOf};
 ghost use Rattle.flex_io.specs.Outside.{Gains, HasFailed};
-ghost use Rattle.flexplan.specs.Words.{lint, plan, paths, request, request_of, texts};
-ghost use Rattle.flexplan.specs.Reply.{PrintsRight, IsFinished, status_of, end_of};
+ghost use Rattle.flexplan.specs.Certified.{IsCertified};
+ghost use Rattle.flexplan.specs.Opened.{IsOpened, IsSoundInput};
+ghost use Rattle.flexplan.specs.Words.{InputPaths, IsCheck, certify, check, lint, paths, request};
+ghost use Rattle.flexplan.specs.Words.{request_of, texts};
+ghost use Rattle.flexplan.specs.Reply.{IsFinished, MayHavePrinted, PrintsRight, asked, end_of, status_of};
 ghost use Rattle.flexplan.specs.ErrorLine.{error_line, IsLineOrNothing};
 
-use crate::answers::{print_answers, print_faults};
-use crate::input::{Opened, open_input};
+use crate::input::{Input, Opened, open_input};
+use crate::printout::{Printout, print_faults, print_input, print_line};
 use crate::status::{Failure, Status};
+use crate::verdict::{CERT_LIMIT, judge};
 use crate::words::{Command, Paths, command_of};
 use feed_load::{Loaded, load};
+use feed_meaning::fetch_file;
 use flex_io::{Files, PutError, Sink};
 use std::alloc::Global;
 
@@ -20,6 +25,7 @@ fn ended(status: Status, printed: Result<(), PutError>) -> Result<Status, Failur
     ensures end { result ≡ end_of status printed }
     ensures read { status_of result ≢ Status.ReadFault }
     ensures used { status_of result ≢ Status.Usage }
+    ensures refused { status ≢ Status.CertRefused → status_of result ≢ Status.CertRefused }
     ensures write { status_of result ≡ Status.WriteFault → IsErrOf printed PutError.Failed }
     ensures written { status_of result ≢ Status.WriteFault → printed ≢ Err PutError.Failed }
 {
@@ -27,15 +33,80 @@ fn ended(status: Status, printed: Result<(), PutError>) -> Result<Status, Failur
     Ok(status)
 }
 
-// Answers the queries of the input.
-fn perform_plan<F: Files, O: Sink>(
+// Prints what is asked of the queries of the input.
+fn perform_queries<F: Files, O: Sink>(
     alloc: Global,
+    printout: Printout,
     input: &Paths<'_>,
     files: &mut F,
     out: &mut O,
 ) -> Result<Status, Failure>
-    ensures printed { PrintsRight (plan (paths input.now)) (F.told files.old) (status_of result)
-        (O.contents out.old) (O.contents out.new) }
+    ensures printed { PrintsRight (asked printout (paths input.now)) (F.told files.old)
+        (status_of result) (O.contents out.old) (O.contents out.new) }
+    ensures certified { printout ≡ Printout.Parts → status_of result ≡ Status.Done
+        → IfSome (F.told files.old) (λ told. Gains (O.contents out.old) (O.contents out.new)
+        (IsCertified told (paths input.now))) }
+    ensures silent { status_of result ≡ Status.ReadFault → O.contents out.new ≡ O.contents out.old }
+    ensures told { F.told files.new ≡ F.told files.old }
+    ensures read_fault { status_of result ≡ Status.ReadFault
+        → HasFailed (F.faults files.old) (F.faults files.new) }
+    ensures write_fault { status_of result ≡ Status.WriteFault
+        → HasFailed (O.faults out.old) (O.faults out.new) }
+    ensures answered_read { status_of result ≢ Status.ReadFault
+        → F.faults files.new ≡ F.faults files.old }
+    ensures answered_write { status_of result ≢ Status.WriteFault
+        → O.faults out.new ≡ O.faults out.old }
+    ensures used { status_of result ≢ Status.Usage }
+    ensures refused { status_of result ≢ Status.CertRefused }
+{
+    match open_input(alloc, files, input)? {
+        Opened::Accepted(held) => ended(Status::Done, print_input(alloc, printout, &held, out)),
+        Opened::Refused(status, faults) => {
+            ended(status, print_faults(alloc, faults.as_slice(), out))
+        }
+    }
+}
+
+// Says whether the certificate of a path is valid for accepted input.
+fn perform_verdict<F: Files, O: Sink>(
+    alloc: Global,
+    held: &Input,
+    cert: &str,
+    files: &mut F,
+    out: &mut O,
+) -> Result<Status, Failure>
+    requires { IsSoundInput held.now }
+    ensures printed { IfSome (F.told files.old) (λ told. (its : InputPaths)
+        → IsOpened told its (Opened.Accepted held.now)
+        → Gains (O.contents out.old) (O.contents out.new)
+        (MayHavePrinted (check its cert.now) told (status_of result))) }
+    ensures silent { status_of result ≡ Status.ReadFault → O.contents out.new ≡ O.contents out.old }
+    ensures told { F.told files.new ≡ F.told files.old }
+    ensures read_fault { status_of result ≡ Status.ReadFault
+        → HasFailed (F.faults files.old) (F.faults files.new) }
+    ensures write_fault { status_of result ≡ Status.WriteFault
+        → HasFailed (O.faults out.old) (O.faults out.new) }
+    ensures answered_read { status_of result ≢ Status.ReadFault
+        → F.faults files.new ≡ F.faults files.old }
+    ensures answered_write { status_of result ≢ Status.WriteFault
+        → O.faults out.new ≡ O.faults out.old }
+    ensures used { status_of result ≢ Status.Usage }
+{
+    let raw = fetch_file(alloc, files, cert, CERT_LIMIT)?;
+    let judged = judge(alloc, held, &raw)?;
+    ended(judged.status, print_line(&judged.line, out))
+}
+
+// Says whether a certificate is valid for the queries of the input.
+fn perform_check<F: Files, O: Sink>(
+    alloc: Global,
+    input: &Paths<'_>,
+    cert: &str,
+    files: &mut F,
+    out: &mut O,
+) -> Result<Status, Failure>
+    ensures printed { PrintsRight (check (paths input.now) cert.now) (F.told files.old)
+        (status_of result) (O.contents out.old) (O.contents out.new) }
     ensures silent { status_of result ≡ Status.ReadFault → O.contents out.new ≡ O.contents out.old }
     ensures told { F.told files.new ≡ F.told files.old }
     ensures read_fault { status_of result ≡ Status.ReadFault
@@ -49,7 +120,7 @@ fn perform_plan<F: Files, O: Sink>(
     ensures used { status_of result ≢ Status.Usage }
 {
     match open_input(alloc, files, input)? {
-        Opened::Accepted(held) => ended(Status::Done, print_answers(alloc, &held, out)),
+        Opened::Accepted(held) => perform_verdict(alloc, &held, cert, files, out),
         Opened::Refused(status, faults) => {
             ended(status, print_faults(alloc, faults.as_slice(), out))
         }
@@ -76,6 +147,7 @@ fn perform_lint<F: Files, O: Sink>(
     ensures answered_write { status_of result ≢ Status.WriteFault
         → O.faults out.new ≡ O.faults out.old }
     ensures used { status_of result ≢ Status.Usage }
+    ensures refused { status_of result ≢ Status.CertRefused }
 {
     match load(alloc, files, folder)? {
         Loaded::Clean(_) => Ok(Status::Done),
@@ -95,6 +167,10 @@ fn perform<F: Files, O: Sink>(
 ) -> Result<Status, Failure>
     ensures printed { PrintsRight (request command.now) (F.told files.old) (status_of result)
         (O.contents out.old) (O.contents out.new) }
+    ensures certified { (its : InputPaths) → request command.now ≡ certify its
+        → status_of result ≡ Status.Done
+        → IfSome (F.told files.old) (λ told. Gains (O.contents out.old) (O.contents out.new)
+        (IsCertified told its)) }
     ensures silent { status_of result ≡ Status.ReadFault → O.contents out.new ≡ O.contents out.old }
     ensures told { F.told files.new ≡ F.told files.old }
     ensures read_fault { status_of result ≡ Status.ReadFault
@@ -106,9 +182,12 @@ fn perform<F: Files, O: Sink>(
     ensures answered_write { status_of result ≢ Status.WriteFault
         → O.faults out.new ≡ O.faults out.old }
     ensures used { status_of result ≢ Status.Usage }
+    ensures refused { status_of result ≡ Status.CertRefused → IsCheck (request command.now) }
 {
     match command {
-        Command::Plan(input) => perform_plan(alloc, input, files, out),
+        Command::Plan(input) => perform_queries(alloc, Printout::Answers, input, files, out),
+        Command::Certify(input) => perform_queries(alloc, Printout::Parts, input, files, out),
+        Command::Check(input, cert) => perform_check(alloc, input, cert, files, out),
         Command::Lint(folder) => perform_lint(alloc, folder, files, out),
     }
 }
@@ -131,6 +210,12 @@ fn answer<F: Files, O: Sink>(alloc: Global, words: &[&str], files: &mut F, out: 
     ensures printed { IfSome (request_of (texts words.now))
         (λ request. PrintsRight request (F.told files.old) result (O.contents out.old)
         (O.contents out.new)) }
+    ensures certified { (its : InputPaths) → request_of (texts words.now) ≡ Some (certify its)
+        → result ≡ Status.Done
+        → IfSome (F.told files.old) (λ told. Gains (O.contents out.old) (O.contents out.new)
+        (IsCertified told its)) }
+    ensures refused { result ≡ Status.CertRefused
+        → IfSome (request_of (texts words.now)) IsCheck }
     ensures silent_usage { result ≡ Status.Usage → O.contents out.new ≡ O.contents out.old }
     ensures silent_read_fault { result ≡ Status.ReadFault
         → O.contents out.new ≡ O.contents out.old }
@@ -189,6 +274,17 @@ pub fn run<F: Files, O: Sink, E: Sink>(
     ensures printed { IfSome (request_of (texts words.now))
         (λ request. PrintsRight request (F.told files.old) result (O.contents out.old)
         (O.contents out.new)) }
+
+    // What `certify` printed whole is the text of a certificate that is read back from it, with a part that a search finds for
+    // each query.
+    ensures certified { (its : InputPaths) → request_of (texts words.now) ≡ Some (certify its)
+        → result ≡ Status.Done
+        → IfSome (F.told files.old) (λ told. Gains (O.contents out.old) (O.contents out.new)
+        (IsCertified told its)) }
+
+    // Told or not, only `check` answers that a certificate is refused.
+    ensures refused { result ≡ Status.CertRefused
+        → IfSome (request_of (texts words.now)) IsCheck }
 
     // Told or not, these two print nothing.
     ensures silent_usage { result ≡ Status.Usage → O.contents out.new ≡ O.contents out.old }

@@ -10,7 +10,7 @@ use flex_model::NoMemory;
 /// The answer of a run.
 #[derive(Clone, Copy, Debug, PartialEq, Eq)]
 pub enum Status {
-    /// All is done: each query is answered, or the feed has no faults.
+    /// All is done: each query is answered, the feed has no faults, or the certificate is valid.
     Done,
     /// The words are of no accepted form.
     Usage,
@@ -20,7 +20,7 @@ pub enum Status {
     TimesFaulty,
     /// The query file has faults, and what is fetched before it has none.
     QueriesFaulty,
-    /// A certificate isn't valid. No command answers it yet.
+    /// The certificate isn't valid, and what is fetched before it has no faults.
     CertRefused,
     /// A file couldn't be read.
     ReadFault,

@@ -76,7 +76,7 @@ fn planned(alloc: Global, others: &[(&str, &str)]) -> Result<Ended, Fail> {
     Ok(ran(alloc, &PLAN, &mut files, MemSink::new(alloc)))
 }
 
-const QUERY_HEADER: &str = "query_id,origin,destination,depart,now,transfers,horizon\n";
+pub(crate) const QUERY_HEADER: &str = "query_id,origin,destination,depart,now,transfers,horizon\n";
 
 const ROW_HEADER: &str =
     "trip_id,stop_sequence,stop_id,arrival_time,departure_time,pickup_type,drop_off_type\n";

@@ -2,7 +2,8 @@
 
 ghost use Rattle.std.specs.Prelude.{◌≡◌};
 ghost use Rattle.std.specs.Option.{option_map};
-ghost use Rattle.flexplan.specs.Words.{paths, request, request_of, texts, is_path, one_path, three_paths};
+ghost use Rattle.flexplan.specs.Words.{four_paths, is_path, one_path, paths, request, request_of};
+ghost use Rattle.flexplan.specs.Words.{texts, three_paths};
 
 /// Where the input lies.
 #[derive(Clone, Copy)]
@@ -19,6 +20,10 @@ pub enum Command<'a> {
     Plan(Paths<'a>),
     /// The faults of a feed folder.
     Lint(&'a str),
+    /// A certificate of answers to the queries of a file.
+    Certify(Paths<'a>),
+    /// Whether a certificate is valid, and where it lies.
+    Check(Paths<'a>, &'a str),
 }
 
 // A word that isn't empty and doesn't begin with a hyphen.
@@ -58,6 +63,29 @@ fn one_path<'a>(name: &str, words: &[&'a str]) -> Option<&'a str>
     }
 }
 
+// The paths of a command with four, the last one apart.
+fn four_paths<'a>(name: &str, words: &[&'a str]) -> Option<(Paths<'a>, &'a str)>
+    ensures { option_map (λ found. (paths found.0, found.1.now)) result
+        ≡ four_paths name.now (texts words.now) }
+{
+    match words {
+        [command, feed, times, queries, cert]
+            if *command == name
+                && is_path(feed)
+                && is_path(times)
+                && is_path(queries)
+                && is_path(cert) => {
+            let paths = Paths {
+                feed,
+                times,
+                queries,
+            };
+            Some((paths, cert))
+        }
+        _ => None,
+    }
+}
+
 /// The command of the words, or none where they are of no accepted form.
 pub fn command_of<'a>(words: &[&'a str]) -> Option<Command<'a>>
     ensures { option_map request result ≡ request_of (texts words.now) }
@@ -67,6 +95,12 @@ pub fn command_of<'a>(words: &[&'a str]) -> Option<Command<'a>>
     }
     if let Some(folder) = one_path("lint", words) {
         return Some(Command::Lint(folder));
+    }
+    if let Some(paths) = three_paths("certify", words) {
+        return Some(Command::Certify(paths));
+    }
+    if let Some((paths, cert)) = four_paths("check", words) {
+        return Some(Command::Check(paths, cert));
     }
     None
 }

@@ -1,0 +1,5 @@
+mod FoundSearch
+mod Orders
+pub mod PrintedParts
+mod RoundLabels
+mod SearchAnswers

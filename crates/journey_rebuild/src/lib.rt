@@ -1,21 +1,13 @@
-//! The journeys of labels: their rides, first ride first.
+//! What a search found: journeys with their rides, first ride first, and the part of a certificate.
 #![tactic(auto)]
 
-ghost use Rattle.std.specs.Prelude.{◌≡◌, IfOk};
-ghost use Rattle.round_engine.specs.Chain.{rides_of};
+mod answers;
+mod laws;
+mod part;
+mod rides;
+mod rounds;
 
-use flex_model::{Listed, NoMemory, Ride};
-use round_engine::Label;
-use std::alloc::Global;
-
-/// The rides of the label and of those before it, first ride first. Its only refusal is want of memory.
-pub fn rebuild(alloc: Global, label: &Label<'_>) -> Result<Listed<Ride>, NoMemory>
-    ensures { IfOk result (λ rides. rides ≡ rides_of label.now) }
-{
-    let mut rides = match label.parent {
-        Some(parent) => rebuild(alloc, parent)?,
-        None => Listed::new(alloc),
-    };
-    rides.push(label.ride)?;
-    Ok(rides)
-}
+pub use answers::exact_answers;
+pub use laws::found_parts_are_printable;
+pub use part::find_part;
+pub use rides::{answers_of, rebuild};
