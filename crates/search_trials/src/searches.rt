@@ -23,7 +23,7 @@ use trial_feeds::{
 };
 
 // A feed whose trip F1 takes one in Z from the point P to M.
-const FILES: [(&str, &[u8]); 11] = [
+pub(crate) const FILES: [(&str, &[u8]); 11] = [
     AGENCY,
     STOPS,
     ROUTES,
@@ -341,7 +341,7 @@ fn a_trip_of_the_day_before_is_found(rt: HostRuntime) -> Result<(), Fail> {
 }
 
 // X1 goes from M at 08:00:00 to N at 08:20:00, X2 from O at 08:25:00 to Q at 08:40:00, and from Q one walks to D, 20 minutes.
-const CHANGING: [(&str, &[u8]); 6] = [
+pub(crate) const CHANGING: [(&str, &[u8]); 6] = [
     (
         "a/trips.txt",
         b"route_id,service_id,trip_id\nR,W,F1\nR,W,X1\nR,W,X2\n",
@@ -393,20 +393,22 @@ const fn walked(walk: u32) -> Triple {
     }
 }
 
+// From M to D within an hour.
+pub(crate) const HOUR: &str = "M,D,q1,2025-06-04T08:00:00Z,2025-06-03T12:00:00Z,1,60\n";
+
 #[test]
 fn journeys_with_a_change_are_found(rt: HostRuntime) -> Result<(), Fail> {
     let alloc = rt.alloc();
-    let hour = "M,D,q1,2025-06-04T08:00:00Z,2025-06-03T12:00:00Z,1,60\n";
     let both: [Best<'_>; 2] = [
         (at(DAY_BEFORE, EIGHT + 3_600), &[WHOLE_WAY]),
         (changing(0), &[X1, X2]),
     ];
-    assert_search(&rt, alloc, &CHANGING, hour, &both)?;
+    assert_search(&rt, alloc, &CHANGING, HOUR, &both)?;
     let shorter = "M,D,q1,2025-06-04T08:00:00Z,2025-06-03T12:00:00Z,1,59\n";
     assert_search(&rt, alloc, &CHANGING, shorter, &[])?;
     let [trips, stop_times, _, points, direct, walks] = CHANGING;
     let at_once = [trips, stop_times, AT_ONCE, points, direct, walks];
-    assert_search(&rt, alloc, &at_once, hour, &both)?;
+    assert_search(&rt, alloc, &at_once, HOUR, &both)?;
     let direct_alone = "M,D,q1,2025-06-04T08:00:00Z,2025-06-03T12:00:00Z,0,60\n";
     assert_search(&rt, alloc, &CHANGING, direct_alone, &both[..1])
 }
