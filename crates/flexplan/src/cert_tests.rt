@@ -202,8 +202,9 @@ fn a_cut_certificate_has_a_bad_line(rt: HostRuntime) -> Result<(), Fail> {
         assert_refused(&rt, alloc, &mut files, cert.as_str(), line.as_str())?;
     }
     let whole = joined(alloc, &LINES, "\n")?;
-    let cut = &whole.as_str()[..whole.len() - 1];
-    assert_refused(&rt, alloc, &mut files, cut, "0 SYNTAX 12")?;
+    let mut cut = joined(alloc, &LINES[..11], "\n")?;
+    cut.push_str(LINES[11])?;
+    assert_refused(&rt, alloc, &mut files, cut.as_str(), "0 SYNTAX 12")?;
     let longer = format!(in alloc; "{whole}valid 1\n")?;
     assert_refused(&rt, alloc, &mut files, longer.as_str(), "0 SYNTAX 13")?;
     let returns = joined(alloc, &LINES, "\r\n")?;
@@ -284,12 +285,13 @@ fn each_put_of_a_certificate_that_fails_is_told(rt: HostRuntime) -> Result<(), F
     let text = whole.out.bytes();
     let heading = b"flexcert 1 1\n".len();
     for (number, begin, end) in [(1, 0, heading), (2, heading, text.len())] {
-        for kept in [0, 1, end - begin - 1] {
+        let size = end.saturating_sub(begin);
+        for kept in [0, 1, size.saturating_sub(1)] {
             let mut out = MemSink::new(alloc);
             out.fail_at(number, kept as u64)?;
             let ended = ran(alloc, &CERTIFY, &mut changed_files(alloc)?, out);
             assert_eq!(rt; ended.status, Status::WriteFault);
-            assert_eq!(rt; ended.out.bytes().len(), begin + kept);
+            assert_eq!(rt; ended.out.bytes().len(), begin.saturating_add(kept));
             assert!(rt; text.starts_with(ended.out.bytes()));
         }
     }
