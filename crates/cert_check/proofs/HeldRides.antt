@@ -1,13 +1,15 @@
 -- Rides that are held, and rides that are offered.
-use Rattle.std.proofs.Common.{◌↔◌, inl, inr, ℕ, ◌+◌, ◌*◌, ◌<◌, ℤ, pos, ◌+ℤ◌, ◌≤ℤ◌, List, Option, Some, None, All, Contains, sym, ◌∙◌, ap, subst, arith}
+use Rattle.std.proofs.Common.{◌≡◌, ◌⊎◌, ◌↔◌, inl, inr, ℕ, ◌+◌, ◌*◌, ◌<◌, ℤ, pos, ◌+ℤ◌, ◌≤ℤ◌, List, Option, Some, None, All, Contains, get_or, length, option_map, sym, ◌∙◌, ap, subst, arith}
 use Rattle.std.specs.Borrow.{Bor}
 use Rattle.std.proofs.lemmas.Bool.{cases_lt, cases_order}
-use Rattle.std.proofs.lemmas.Int.{ints}
+use Rattle.std.proofs.lemmas.Int.{by_lt_z, ints}
+use Rattle.std.proofs.lemmas.Option.{slice_get-get_or, slice_get-map}
 use Rattle.std.proofs.lemmas.List.Elements.{All-contains}
 use Rattle.bound_cert.specs.declared.cert.CertPart.{CertPart}
 use Rattle.cert_check.specs.declared.labels.RoundLabel.{RoundLabel}
 use Rattle.cert_check.specs.declared.made.Boarded.{Boarded}
 use Rattle.cert_check.specs.declared.task.Task.{Task}
+use Rattle.flex_model.specs.declared.answer.Answer.{Answer}
 use Rattle.flex_model.specs.declared.answer.Pair.{Pair}
 use Rattle.flex_model.specs.declared.answer.Triple.{Triple}
 use Rattle.flex_model.specs.declared.moment.Deadline.{Deadline}
@@ -16,6 +18,8 @@ use Rattle.flex_model.specs.declared.ride.Ride.{Ride}
 use Rattle.booking_rules.specs.Departures.{later}
 use Rattle.flex_model.specs.Booking.{IsDeadline}
 use Rattle.flex_model.specs.Deadline.{IsNoLater, lesser}
+use Rattle.flex_model.specs.Answer.{triples}
+use Rattle.flex_model.specs.Journey.{limit}
 use Rattle.flex_model.specs.LabelTable.{IsHeld, IsHeldByLabel, Label, pair_of}
 use Rattle.flex_model.specs.Triple.{CoversPair, pair_of_triple}
 use Rattle.flex_model.proofs.Bounds.{deadlines_in_time}
@@ -28,7 +32,7 @@ use Rattle.ride_index.specs.OfferedRuns.{AreOfferedFrom, IsWantedRide, nth_deadl
 use Rattle.bound_cert.specs.Parts.{told_label, told_rounds}
 use Rattle.cert_check.specs.Labels.{IsHeldAmong, labels_of}
 use Rattle.cert_check.specs.Modest.{IsModest}
-use Rattle.cert_check.specs.Tasks.{CanBeTaken, IsHeldIn, IsNthHeld, IsRideHeld, IsSoundTask, IsUnheldFrom, IsUnheldOfAny, pair_after, wanted_from}
+use Rattle.cert_check.specs.Tasks.{CanBeTaken, CoversLater, IsCoveredFrom, IsHeldIn, IsNthHeld, IsRideHeld, IsSoundTask, IsUnheldFrom, IsUnheldOfAny, pair_after, wanted_from}
 use Rattle.cert_check.proofs.LabelTables.{in_table, listed}
 
 -- ---- held pairs
@@ -76,27 +80,61 @@ module _ (part : CertPart) (labels : List RoundLabel) (same : (label : RoundLabe
 
 -- ---- offered rides
 
--- a ride that can be taken is wanted
-pub wanted_ride : (task : Task) (active : Bor ActiveDays) (place : Place) (earliest : ℤ) (ride : Ride) (deadline : Deadline)
-    → CanBeTaken task place earliest ride deadline → IsWantedRide (wanted_from task active place earliest) ride deadline
-wanted_ride task active place earliest ride deadline can = record {
+-- what is asked for stays right where an answer lowers it
+pub lowered_again : (answers : List Answer) (boarded : Boarded) (limit before after : ℤ) (i : ℕ) (dummy : Answer) → i < length answers
+    → (before ≤ℤ limit) × ((before ≡ limit) ⊎ IsCoveredFrom (triples answers) boarded before) → after ≤ℤ before
+    → (after ≡ before) ⊎ (CoversLater (get_or answers i dummy).triple boarded × (get_or answers i dummy).triple.arrival ≤ℤ after)
+    → (after ≤ℤ limit) × ((after ≡ limit) ⊎ IsCoveredFrom (triples answers) boarded after)
+lowered_again answers boarded limit before after i dummy lt (low, late) le (inl same) =
+    subst (λ m. (m ≤ℤ limit) × ((m ≡ limit) ⊎ IsCoveredFrom (triples answers) boarded m)) (sym same) (low, late)
+lowered_again answers boarded limit before after i dummy lt (low, late) le (inr (covers, arrives)) = (
+  omega (arith, ints),
+  inr (record {
+    triple = (get_or answers i dummy).triple;
+    is_printed = Contains-at (triples answers) i (get_or answers i dummy).triple
+        (slice_get-map (λ (a : Answer). a.triple) answers i ∙ ap (option_map (λ (a : Answer). a.triple)) (slice_get-get_or answers i dummy lt));
+    covers = covers;
+    arrives = arrives;
+  }),
+)
+
+-- a ride that arrives later than what an answer covers is held
+pub held_later : (task : Task) (boarded : Boarded) (latest : ℤ) (ride : Ride) (deadline : Deadline)
+    → IsCoveredFrom (triples task.part.now.answers) boarded latest → latest ≤ℤ ride.arrives → IsRideHeld task boarded ride deadline
+held_later task boarded latest ride deadline held late = inr (record {
+  triple = held.triple;
+  is_printed = held.is_printed;
+  few = held.covers.transfers;
+  covers = record {
+    deadline = IsNoLater_trans (lesser boarded.deadline deadline) boarded.deadline held.triple.deadline (lesser_left boarded.deadline deadline) held.covers.deadline;
+    arrival = (let a : held.triple.arrival ≤ℤ latest = held.arrives in omega (arith, ints));
+    walk = held.covers.walk;
+  };
+})
+
+-- a ride that can be taken and arrives by the latest moment is wanted
+pub wanted_ride : (task : Task) (active : Bor ActiveDays) (place : Place) (earliest latest : ℤ) (ride : Ride) (deadline : Deadline)
+    → ride.arrives ≤ℤ latest
+    → CanBeTaken task place earliest ride deadline → IsWantedRide (wanted_from task active place earliest latest) ride deadline
+wanted_ride task active place earliest latest ride deadline in_time can = record {
   permitted = can.on_the_way.usable.permitted;
   bookable = can.on_the_way.usable.bookable;
   booked = can.on_the_way.booked;
   boards = can.boards;
   alights = can.on_the_way.alights;
   leaves = can.leaves;
-  arrives = can.on_the_way.arrives;
+  arrives = in_time;
 }
 
-pub ride_wanted : (task : Task) (active : Bor ActiveDays) (place : Place) (earliest : ℤ) (ride : Ride) (deadline : Deadline)
-    → IsWantedRide (wanted_from task active place earliest) ride deadline → CanBeTaken task place earliest ride deadline
-ride_wanted task active place earliest ride deadline wanted = record {
+pub ride_wanted : (task : Task) (active : Bor ActiveDays) (place : Place) (earliest latest : ℤ) (ride : Ride) (deadline : Deadline)
+    → latest ≤ℤ limit task.query.now
+    → IsWantedRide (wanted_from task active place earliest latest) ride deadline → CanBeTaken task place earliest ride deadline
+ride_wanted task active place earliest latest ride deadline low wanted = record {
   on_the_way = record {
     usable = record { permitted = wanted.permitted; bookable = wanted.bookable };
     booked = wanted.booked;
     alights = wanted.alights;
-    arrives = wanted.arrives;
+    arrives = (let a : ride.arrives ≤ℤ latest = wanted.arrives in omega (arith, ints));
   };
   boards = wanted.boards;
   leaves = wanted.leaves;
@@ -154,17 +192,18 @@ rest_held task boarded run n all here last k = elim (cases_lt k (n + 1)) [
       here)
 ]
 
-module _ (task : Task) (sound : IsSoundTask task) (active : Bor ActiveDays) (boarded : Boarded) (place : Place) (earliest : ℤ) (runs : List OfferedRun)
-    (are : AreOfferedFrom (wanted_from task active place earliest) runs) where
+module _ (task : Task) (sound : IsSoundTask task) (active : Bor ActiveDays) (boarded : Boarded) (place : Place) (earliest latest : ℤ) (runs : List OfferedRun)
+    (low : latest ≤ℤ limit task.query.now) (late : (latest ≡ limit task.query.now) ⊎ IsCoveredFrom (triples task.part.now.answers) boarded latest)
+    (are : AreOfferedFrom (wanted_from task active place earliest latest) runs) where
   pub runs_modest : All (λ run. (k : ℕ) → k < run.count → IsModest run k) runs
   runs_modest = All-from_contains (λ run. (k : ℕ) → k < run.count → IsModest run k) runs (λ run c k lt.
-      modest task sound place earliest run k (ride_wanted task active place earliest (nth_ride run k) (nth_deadline run k) (are.each run k c lt)))
+      modest task sound place earliest run k (ride_wanted task active place earliest latest (nth_ride run k) (nth_deadline run k) low (are.each run k c lt)))
 
   -- a ride that is covered by a held one is held
-  ride_held : All (λ run. (k : ℕ) → k < run.count → IsNthHeld task boarded run k) runs
-      → (ride : Ride) (deadline : Deadline) → CanBeTaken task place earliest ride deadline → IsRideHeld task boarded ride deadline
-  ride_held all ride deadline can =
-      let found = are.whole ride deadline (wanted_ride task active place earliest ride deadline can) in
+  covered_held : All (λ run. (k : ℕ) → k < run.count → IsNthHeld task boarded run k) runs
+      → (ride : Ride) (deadline : Deadline) → CanBeTaken task place earliest ride deadline → ride.arrives ≤ℤ latest → IsRideHeld task boarded ride deadline
+  covered_held all ride deadline can in_time =
+      let found = are.whole ride deadline (wanted_ride task active place earliest latest ride deadline in_time can) in
       let run : OfferedRun = found.run in
       let least : Deadline = boarded.deadline in
       let late : Deadline = nth_deadline run found.at in
@@ -178,12 +217,21 @@ module _ (task : Task) (sound : IsSoundTask task) (active : Bor ActiveDays) (boa
       subst (λ p. IsHeldIn task p (pair_after boarded ride deadline) boarded.round) found.alights
       (held_weaker _ _ run.ride.alight (pair_after boarded (nth_ride run found.at) late) (pair_after boarded ride deadline) boarded.round covers held)
 
+  ride_held : All (λ run. (k : ℕ) → k < run.count → IsNthHeld task boarded run k) runs
+      → (ride : Ride) (deadline : Deadline) → CanBeTaken task place earliest ride deadline → IsRideHeld task boarded ride deadline
+  ride_held all ride deadline can = elim late [
+    | inl same ↦ covered_held all ride deadline can (subst (λ m. ride.arrives ≤ℤ m) (sym same) can.on_the_way.arrives)
+    | inr held ↦ by_lt_z latest ride.arrives
+        (λ lt. held_later task boarded latest ride deadline held (omega (arith, ints)))
+        (λ le. covered_held all ride deadline can le)
+  ]
+
   pub unheld_of_offers : (found : Option Ride) → IsUnheldOfAny task boarded runs found → IsUnheldFrom task boarded place earliest found
   unheld_of_offers None all = λ ride deadline can. ride_held all ride deadline can
   unheld_of_offers (Some ride) of =
       let run : OfferedRun = of.0 in
       let k : ℕ = of.2.0 in
-      let can = ride_wanted task active place earliest (nth_ride run k) (nth_deadline run k) (are.each run k of.1 of.2.1) in (
+      let can = ride_wanted task active place earliest latest (nth_ride run k) (nth_deadline run k) low (are.each run k of.1 of.2.1) in (
         nth_deadline run k,
         subst (λ r. CanBeTaken task place earliest r (nth_deadline run k)) (sym of.2.2) can,
         subst (λ r. IsRideHeld task boarded r (nth_deadline run k) → ⊥) (sym of.2.2) of.2.3,

@@ -1,5 +1,5 @@
 -- What is checked, and what is looked up for it. This project's own.
-use Rattle.std.specs.Prelude.{◌≡◌, ◌↔◌, ℕ, ◌<◌, ℤ, ◌≤ℤ◌, false, List, Option, Some, None, All, AllPairs, Contains}
+use Rattle.std.specs.Prelude.{◌≡◌, ◌↔◌, ℕ, ◌<◌, ◌≤◌, ℤ, ◌≤ℤ◌, false, List, Option, Some, None, All, AllPairs, Contains}
 use Rattle.std.specs.Borrow.{Bor}
 use Rattle.std.specs.Ordering.{is_lt}
 use Rattle.cert_check.specs.declared.labels.RoundLabel.{RoundLabel}
@@ -9,11 +9,12 @@ use Rattle.cert_check.specs.declared.reason.Reason.{Reason}
 use Rattle.cert_check.specs.declared.task.Lookups.{Lookups}
 use Rattle.cert_check.specs.declared.task.Task.{Task}
 use Rattle.flex_model.specs.declared.answer.Pair.{Pair}
+use Rattle.flex_model.specs.declared.answer.Triple.{Triple}
 use Rattle.flex_model.specs.declared.moment.Deadline.{Deadline}
 use Rattle.flex_model.specs.declared.place.Place.{Place}
 use Rattle.flex_model.specs.declared.ride.Ride.{Ride}
 use Rattle.flex_model.specs.Answer.{triples}
-use Rattle.flex_model.specs.Deadline.{lesser}
+use Rattle.flex_model.specs.Deadline.{IsNoLater, lesser}
 use Rattle.flex_model.specs.Journey.{limit}
 use Rattle.flex_model.specs.LabelTable.{IsHeld, IsOnTheWay}
 use Rattle.flex_model.specs.Place.{place_cmp}
@@ -86,9 +87,22 @@ pub record CanBeTaken (task : Task) (place : Place) (earliest : ℤ) (ride : Rid
   pub boards : ride.board ≡ place
   pub leaves : earliest ≤ℤ ride.departs
 
--- the rides that are wanted from the place, where one can be at the moment
-abbrev pub wanted_from : Task → Bor ActiveDays → Place → ℤ → Wanted
-wanted_from task active place earliest = record {
+-- The triple covers each pair that arrives no earlier than it and that a ride in this round makes of what is boarded.
+pub record CoversLater (triple : Triple) (boarded : Boarded) : Type 0 where
+  pub deadline : IsNoLater boarded.deadline triple.deadline
+  pub walk : triple.walk ≤ boarded.walk
+  pub transfers : triple.transfers < boarded.round
+
+-- a printed triple that arrives by the moment covers what arrives at it or later
+pub record IsCoveredFrom (printed : List Triple) (boarded : Boarded) (moment : ℤ) : Type 0 where
+  pub triple : Triple
+  pub is_printed : Contains printed triple
+  pub covers : CoversLater triple boarded
+  pub arrives : triple.arrival ≤ℤ moment
+
+-- the rides that are wanted from the place, where one can be at the moment, and that arrive by the latest one
+abbrev pub wanted_from : Task → Bor ActiveDays → Place → ℤ → ℤ → Wanted
+wanted_from task active place earliest latest = record {
   feed = task.feed;
   times = task.times;
   days = task.days;
@@ -97,7 +111,7 @@ wanted_from task active place earliest = record {
   destination = task.query.now.destination;
   place = place;
   earliest = earliest;
-  limit = limit task.query.now;
+  limit = latest;
 }
 
 -- the ride of the run with this number, counted from 0, can be taken

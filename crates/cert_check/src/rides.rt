@@ -1,16 +1,18 @@
 // Rides that can be taken after a way so far, and are not held.
 
-ghost use Rattle.std.specs.Prelude.{◌≡◌, ◌↔◌, ◌<◌, ◌≤ℤ◌, ◌+ℤ◌, ◌*◌, ℕ, All, IfOk, IsTrue, pos};
+ghost use Rattle.std.specs.Prelude.{◌≡◌, ◌⊎◌, ◌↔◌, ◌<◌, ◌≤ℤ◌, ◌+ℤ◌, ◌*◌, ℕ, All, IfOk, IsTrue, pos};
 ghost use Rattle.booking_rules.specs.Departures.{later as deadline_after};
+ghost use Rattle.flex_model.specs.Answer.{triples};
 ghost use Rattle.flex_model.specs.Deadline.{IsNoLater, lesser};
+ghost use Rattle.flex_model.specs.Journey.{limit};
 ghost use Rattle.ride_index.specs.OfferedRuns.{nth_deadline, nth_ride};
 ghost use Rattle.cert_check.specs.Modest.{IsModest, IsModestDeadline};
-ghost use Rattle.cert_check.specs.Tasks.{AreLookupsOf, IsNthHeld, IsSoundTask, IsUnheldFrom, IsUnheldOf, IsUnheldOfAny, pair_after, pair_of_made, wanted_from};
+ghost use Rattle.cert_check.specs.Tasks.{AreLookupsOf, CoversLater, IsCoveredFrom, IsNthHeld, IsSoundTask, IsUnheldFrom, IsUnheldOf, IsUnheldOfAny, pair_after, pair_of_made, wanted_from};
 
 use crate::held::is_held;
 use crate::made::{Boarded, Made, earlier, is_no_later, limit_of};
 use crate::task::{Lookups, Task};
-use flex_model::{Deadline, Moment, NoMemory, Place, Ride};
+use flex_model::{Answer, Deadline, Moment, NoMemory, Place, Ride, Triple};
 use ride_index::{ActiveDays, OfferedRun, Wanted, offers_from};
 use std::alloc::Global;
 
@@ -132,15 +134,62 @@ fn unheld_of_any(
     None
 }
 
-// The rides that are wanted from the place, where one can be at the moment.
+// Whether the triple covers each pair that arrives no earlier than it and that a ride in this round
+// makes of what is boarded.
+fn covers_later(triple: &Triple, boarded: &Boarded) -> bool
+    ensures { IsTrue result → CoversLater triple.now boarded.now }
+{
+    is_no_later(boarded.deadline, triple.deadline)
+        && u64::from(triple.walk) <= boarded.walk
+        && u64::from(triple.transfers) < boarded.round
+}
+
+// The moment, or the triple's arrival where the triple covers what arrives from then on.
+fn lowered(latest: Moment, triple: &Triple, boarded: &Boarded) -> Moment
+    ensures low { result ≤ℤ latest }
+    ensures late { (result ≡ latest)
+        ⊎ (CoversLater triple.now boarded.now × triple.now.arrival ≤ℤ result) }
+{
+    if triple.arrival < latest && covers_later(triple, boarded) {
+        triple.arrival
+    } else {
+        latest
+    }
+}
+
+// The earliest moment from which an answer covers what rides make of what is boarded, or the limit.
+fn covered_from(answers: &[Answer], boarded: &Boarded, limit: Moment) -> Moment
+    ensures low { result ≤ℤ limit }
+    ensures late { (result ≡ limit) ⊎ IsCoveredFrom (triples answers.now) boarded.now result }
+{
+    let mut latest = limit;
+    for i in 0..answers.len() {
+        latest = lowered(latest, &answers[i].triple, boarded);
+    }
+    latest
+}
+
+// The latest moment up to which rides have to be asked for: what arrives later, but by the limit, is
+// covered by an answer.
+fn latest_asked(task: &Task<'_>, boarded: &Boarded) -> Moment
+    requires { IsSoundTask task.now }
+    ensures low { result ≤ℤ limit task.now.query.now }
+    ensures late { (result ≡ limit task.now.query.now)
+        ⊎ IsCoveredFrom (triples task.now.part.now.answers) boarded.now result }
+{
+    covered_from(task.part.answers.as_slice(), boarded, limit_of(task.query))
+}
+
+// The rides that are wanted from the place, where one can be at the moment, and that arrive by the
+// latest one.
 fn wanted_at<'s>(
     task: &Task<'s>,
     active: &'s ActiveDays,
     place: Place,
     earliest: Moment,
+    latest: Moment,
 ) -> Wanted<'s>
-    requires { IsSoundTask task.now }
-    ensures { result ≡ wanted_from task.now active.entry place earliest }
+    ensures { result ≡ wanted_from task.now active.entry place earliest latest }
 {
     Wanted {
         feed: task.feed,
@@ -151,7 +200,7 @@ fn wanted_at<'s>(
         destination: task.query.destination,
         place,
         earliest,
-        limit: limit_of(task.query),
+        limit: latest,
     }
 }
 
@@ -169,7 +218,8 @@ pub(crate) fn unheld_from(
     ensures { IfOk result (IsUnheldFrom task.now boarded.now place earliest) }
 {
     let mut runs = Vec::new(alloc);
-    let wanted = wanted_at(task, lookups.active, place, earliest);
+    let latest = latest_asked(task, boarded);
+    let wanted = wanted_at(task, lookups.active, place, earliest, latest);
     offers_from(alloc, lookups.index, &wanted, &mut runs)?;
     Ok(unheld_of_any(task, lookups, boarded, runs.as_slice()))
 }
