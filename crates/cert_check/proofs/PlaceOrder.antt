@@ -1,10 +1,11 @@
 -- Labels in the order of their places: what a sort gives, and that those of a place stand together.
-use Rattle.std.proofs.Common.{◌≡◌, ◌↔◌, ℕ, ◌≤◌, true, false, Bool, List, Contains, Ordering, Less, Equal, Greater, nat_cmp, length, refl, sym, ◌∙◌, ap, arith}
-use Rattle.std.proofs.lemmas.Bool.{false≢true}
+use Rattle.std.proofs.Common.{◌≡◌, ◌↔◌, inl, inr, ℕ, ◌+◌, ◌<◌, ◌≤◌, true, false, Bool, List, Contains, Ordering, Less, Equal, Greater, nat_cmp, get_or, length, refl, sym, ◌∙◌, ap, subst, arith}
+use Rattle.std.proofs.lemmas.Bool.{cases_order, false≢true}
 use Rattle.std.proofs.lemmas.Bool.Decides.{nat_tests}
 use Rattle.std.proofs.lemmas.List.Sorted.{sorted_far}
+use Rattle.std.proofs.lemmas.Option.{get_or_from_slice_get, slice_get-get_or}
 use Rattle.std.specs.Cmp.{IsStrictWeakOrder}
-use Rattle.std.specs.List.{between}
+use Rattle.std.specs.List.{AllWithin, between}
 use Rattle.std.specs.List.Sorted.{IsPartitionPoint, IsPartitionedBy, IsSortedBy}
 use Rattle.std.specs.Ordering.{is_le, is_lt}
 use Rattle.cert_check.specs.declared.labels.RoundLabel.{RoundLabel}
@@ -80,6 +81,51 @@ parted_before p = parted InOrder (stands_before p) (λ x y e f. less_down p x.la
 
 pub parted_by : (p : Place) (labels : List RoundLabel) → AreByPlace labels → IsPartitionedBy (stands_by p) labels
 parted_by p = parted InOrder (stands_by p) (λ x y e f. by_down p x.label.place y.label.place e f)
+
+lt_le : (o : Ordering) → is_lt o ≡ true → is_le o ≡ true
+lt_le Less e = refl
+lt_le Equal e = absurd (false≢true e)
+lt_le Greater e = absurd (false≢true e)
+
+not_true : (b : Bool) → (b ≡ true → ⊥) → b ≡ false
+not_true true never = absurd (never refl)
+not_true false never = refl
+
+-- an item is the same with any default
+same_item : (labels : List RoundLabel) (n : ℕ) (x d : RoundLabel) → n < length labels → get_or labels n d ≡ get_or labels n x
+same_item labels n x d lt = get_or_from_slice_get labels n (get_or labels n x) d (slice_get-get_or labels n x lt)
+
+abbrev StandBy : Place → List RoundLabel → ℕ → Type 0
+StandBy p labels n = AllWithin (λ x. stands_by p x ≡ true) labels 0 n
+
+-- what stands before a place stands by it
+pub known_by : (p : Place) (labels : List RoundLabel) (n : ℕ)
+    → IsPartitionPoint (λ x. stands_before p x ≡ true) (λ x. stands_before p x ≡ false) labels n → StandBy p labels n
+known_by p labels n known k d low high = lt_le (place_cmp (get_or labels k d).label.place p) (known.0 k d low high)
+
+-- so does one more
+pub one_more_by : (p : Place) (labels : List RoundLabel) (n : ℕ) (x : RoundLabel) (b : Bool) → n < length labels → StandBy p labels n
+    → b ≡ stands_by p (get_or labels n x) → b ≡ true → StandBy p labels (n + 1)
+one_more_by p labels n x b lt all is here k d low high = elim (cases_order k n) [
+  | inl same ↦ subst (λ m. stands_by p (get_or labels m d) ≡ true) (sym same) (ap (stands_by p) (same_item labels n x d lt) ∙ sym is ∙ here)
+  | inr (inl less) ↦ all k d low less
+  | inr (inr more) ↦ absurd (omega arith)
+]
+
+-- from the first that doesn't stand by the place on none does
+pub ends_there : (p : Place) (labels : List RoundLabel) → AreByPlace labels → (n : ℕ) (x : RoundLabel) (b : Bool) → n < length labels → StandBy p labels n
+    → b ≡ stands_by p (get_or labels n x) → b ≡ false → IsPartitionPoint (λ y. stands_by p y ≡ true) (λ y. stands_by p y ≡ false) labels n
+ends_there p labels order n x b lt all is out = (
+  all,
+  λ k d le within. not_true (stands_by p (get_or labels k d)) (λ e.
+      let yes' : stands_by p (get_or labels n d) ≡ true = parted_by p labels order n k d le within e in
+      let no' : stands_by p (get_or labels n d) ≡ false = ap (stands_by p) (same_item labels n x d lt) ∙ sym is ∙ out in
+      false≢true (sym no' ∙ yes')),
+)
+
+pub all_there : (p : Place) (labels : List RoundLabel) (n : ℕ) → length labels ≤ n → StandBy p labels n
+    → IsPartitionPoint (λ y. stands_by p y ≡ true) (λ y. stands_by p y ≡ false) labels (length labels)
+all_there p labels n le all = (λ k d low high. all k d low (omega arith), λ k d low high. absurd (omega arith))
 
 is_equal : (o : Ordering) → is_lt o ≡ false → is_le o ≡ true → o ≡ Equal
 is_equal Less e f = absurd (false≢true (sym e))

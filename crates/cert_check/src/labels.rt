@@ -78,14 +78,24 @@ fn count_before(labels: &[RoundLabel], place: Place) -> usize
     labels.partition_point(move |label| stands_before(label, place))
 }
 
-// How many labels stand at the place or an earlier one.
-fn count_by(labels: &[RoundLabel], place: Place) -> usize
-    requires { AreByPlace labels.now }
+// How many labels stand at the place or an earlier one, where it is known how many stand before it.
+// Few stand at one place, so the others are gone through.
+fn count_by(labels: &[RoundLabel], place: Place, before: usize) -> usize
+    requires order { AreByPlace labels.now }
+    requires low { before ≤ length labels.now }
+    requires known { IsPartitionPoint (λ label. Places.stands_before place label ≡ true)
+        (λ label. Places.stands_before place label ≡ false) labels.now before }
+    ensures from { before ≤ result }
     ensures bound { result ≤ length labels.now }
     ensures point { IsPartitionPoint (λ label. Places.stands_by place label ≡ true)
         (λ label. Places.stands_by place label ≡ false) labels.now result }
 {
-    labels.partition_point(move |label| stands_by(label, place))
+    for at in before..labels.len() {
+        if !stands_by(&labels[at], place) {
+            return at;
+        }
+    }
+    labels.len()
 }
 
 /// The labels that stand at the place, of those in the order of their places.
@@ -95,9 +105,6 @@ pub(crate) fn labels_at(labels: &[RoundLabel], place: Place) -> &[RoundLabel]
         ↔ (Contains labels.now label × (label.label.place ≡ place)) }
 {
     let start = count_before(labels, place);
-    let end = count_by(labels, place);
-    if end < start {
-        return &labels[start..start];
-    }
+    let end = count_by(labels, place, start);
     &labels[start..end]
 }
