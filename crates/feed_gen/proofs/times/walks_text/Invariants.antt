@@ -1,0 +1,7 @@
+use Rattle.std.proofs.Common.{◌≡◌, ◌++◌, map}
+use Rattle.feed_gen.specs.TimesTexts.{walk_record}
+use Rattle.feed_gen.specs.Texts.{below, lines}
+use Rattle.feed_gen.proofs.times.walks_text.Given as goal
+
+abbrev pub invariant-loop-i : goal.invariant-loop-i
+invariant-loop-i l = l.text ≡ l.initial.text ++ lines (map walk_record (below l.i))

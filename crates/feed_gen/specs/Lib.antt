@@ -1,0 +1,9 @@
+pub mod Draws
+pub mod Texts
+pub mod Ids
+pub mod FeedTexts
+pub mod StopTimesText
+pub mod TimesTexts
+pub mod QueriesText
+pub mod DemoFiles
+pub mod Laws
